@@ -1,0 +1,54 @@
+-- A labelled graph, as two finite maps.
+use Rattle.std.specs.Prelude.{ℕ, Bool, IsTrue, List, min, max, refl}
+use Rattle.std.specs.Coded.{Coded, code_by, coded×, coded_ℕ}
+use Rattle.std.specs.FinMap as map
+use Rattle.std.specs.Ordering.{nat_cmp, ordering_then}
+use Rattle.std.specs.declared.cmp.Ordering.{Ordering}
+
+-- edges are ordered by their lower ends, and then by their higher ones
+abbrev pub pair_cmp : ℕ × ℕ → ℕ × ℕ → Ordering
+pair_cmp e f = ordering_then (nat_cmp e.0 f.0) (nat_cmp e.1 f.1)
+
+-- the labels of the vertices, and the labels of the edges, each named by its lower end and its higher one
+pub record Graph : Type 0 where
+  pub labels : map.FinMap nat_cmp ℕ
+  pub edges : map.FinMap pair_cmp ℕ
+
+-- the graph that has nothing
+abbrev pub empty_graph : Graph
+empty_graph = record { labels = map.empty; edges = map.empty }
+
+-- the edge between two vertices, as its lower end and its higher one
+abbrev pub edge_between : ℕ → ℕ → ℕ × ℕ
+edge_between x y = (min x y, max x y)
+
+abbrev pub has_vertex : Graph → ℕ → Bool
+has_vertex g v = map.contains_key g.labels v
+
+abbrev pub has_edge : Graph → ℕ × ℕ → Bool
+has_edge g e = map.contains_key g.edges e
+
+-- both ends of an edge are vertices of the graph
+pub record HasEnds (g : Graph) (e : ℕ × ℕ) : Type 0 where
+  pub low : IsTrue (has_vertex g e.0)
+  pub high : IsTrue (has_vertex g e.1)
+
+-- each edge of the graph has both its ends
+abbrev pub EdgesHaveEnds : Graph → Type 0
+EdgesHaveEnds g = (e : ℕ × ℕ) → IsTrue (has_edge g e) → HasEnds g e
+
+-- the graph with these labels of vertices and of edges
+abbrev pub graph_of : List (ℕ × ℕ) → List ((ℕ × ℕ) × ℕ) → Graph
+graph_of labels edges = record { labels = map.from_entries labels; edges = map.from_entries edges }
+
+abbrev pub with_vertex : Graph → ℕ → ℕ → Graph
+with_vertex g v label = record { labels = map.insert g.labels v label; edges = g.edges }
+
+abbrev pub with_edge : Graph → ℕ × ℕ → ℕ → Graph
+with_edge g e label = record { labels = g.labels; edges = map.insert g.edges e label }
+
+-- a graph is stored as the pair of its maps
+abbrev pub graph_code : Coded Graph
+graph_code = code_by (map.FinMap nat_cmp ℕ × map.FinMap pair_cmp ℕ)
+    (coded× (map.code coded_ℕ coded_ℕ) (map.code (coded× coded_ℕ coded_ℕ) coded_ℕ))
+    (λ g. (g.labels, g.edges)) (λ p. record { labels = p.0; edges = p.1 }) (λ _. refl)

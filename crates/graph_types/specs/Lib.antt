@@ -1,0 +1,4 @@
+pub mod Graph
+pub mod Orders
+pub mod Piece
+pub mod Slots

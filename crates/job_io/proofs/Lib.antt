@@ -1,0 +1,7 @@
+pub mod Gathering
+pub mod Copying
+pub mod LinesOf
+pub mod Ahead
+pub mod BlockOf
+pub mod WordsOf
+pub mod NumberOf

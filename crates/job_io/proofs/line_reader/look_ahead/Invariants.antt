@@ -1,0 +1,14 @@
+use Rattle.std.proofs.Common.{◌≡◌, ◌≤◌, ◌-◌, length, Contains}
+use Rattle.job_io.specs.Lines.{lf}
+use Rattle.job_io.specs.Reading.{Takes}
+use Rattle.job_io.proofs.line_reader.look_ahead.Given as goal
+
+abbrev pub invariant-loop-ahead : goal.invariant-loop-ahead
+invariant-loop-ahead g l = record {
+  taken : Takes l.initial.buffer.held l.buffer.held (g.S.Source.left l.initial.src) (g.S.Source.left l.src);
+  unasked : Contains l.initial.buffer.held lf → (l.src ≡ l.initial.src) × (l.buffer.held ≡ l.initial.buffer.held);
+  kept : g.S.Source.faults l.initial.src ≤ g.S.Source.faults l.src;
+}
+
+abbrev pub decreases-loop-ahead : goal.decreases-loop-ahead
+decreases-loop-ahead g l = 4097 - length l.buffer.held

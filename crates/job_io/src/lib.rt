@@ -1,0 +1,22 @@
+//! Where a job's bytes come from and where records go: sources and sinks, the lines of a source, the fields
+//! of a line, and lines that are being made.
+#![tactic(auto)]
+
+mod ends;
+mod fields;
+mod line_buffer;
+mod line_reader;
+mod lines;
+mod memory;
+mod page;
+mod short_line;
+mod standard;
+
+pub use ends::{Failed, Sink, Source, WriteFault, put_all};
+pub use fields::{is_label, is_nothing, read_id, read_number, rest, word, words};
+pub use line_reader::{LineFault, LineReader};
+pub use lines::without_cr;
+pub use memory::{ByteList, CallList, MemorySink, MemorySource};
+pub use page::{PAGE_BYTES, Page};
+pub use short_line::{SHORT_LINE_BYTES, ShortLine};
+pub use standard::{StdSink, StdSource};

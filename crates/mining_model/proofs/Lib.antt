@@ -1,0 +1,3 @@
+pub mod Sides
+pub mod VertexPictures
+pub mod Texts

@@ -1,0 +1,6 @@
+pub mod Step
+pub mod Picture
+pub mod Connected
+pub mod Embeddings
+pub mod Changes
+pub mod Text

@@ -1,0 +1,19 @@
+//! Laws about the definitions: each is the contract of a function that does nothing.
+
+ghost use Rattle.std.specs.Prelude.{◌≡◌, ◌↔◌, ℕ, List, length, IsTrue};
+ghost use Rattle.graph_types.specs.Graph.{Graph, empty_graph};
+ghost use Rattle.graph_types.specs.declared.update.Update.{Update};
+ghost use Rattle.mining_model.specs.Connected.{connected, IsConnected};
+ghost use Rattle.mining_model.specs.Embeddings.{Pattern};
+ghost use Rattle.mining_model.specs.Text.{text_from, text_upto};
+
+/// Connected by splits is connected by sides.
+pub fn connected_by_sides()
+    ensures { (g : Graph) → IsTrue (connected g) ↔ IsConnected g }
+{}
+
+/// The text of some updates, made one after another, is that of timestamps 1 to their number.
+pub fn text_of_each_timestamp()
+    ensures { (pattern : Pattern) (us : List Update) →
+        text_from pattern empty_graph 0 us ≡ text_upto pattern us (length us) }
+{}

@@ -1,0 +1,4 @@
+pub mod Reaching
+pub mod Rising
+pub mod Growing
+pub mod SameMembers

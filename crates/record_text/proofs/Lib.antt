@@ -1,0 +1,2 @@
+pub mod BegunLine
+pub mod Records

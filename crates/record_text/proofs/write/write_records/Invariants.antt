@@ -1,0 +1,11 @@
+-- The records so far were passed on.
+use Rattle.std.proofs.Common.{◌≤◌, take}
+use Rattle.graph_types.specs.Piece.{members_of_all}
+use Rattle.job_io.specs.Ends.{PassesOn}
+use Rattle.mining_model.specs.Text.{records_text}
+use Rattle.record_text.proofs.write.write_records.Given as goal
+
+abbrev pub invariant-loop-piece : goal.invariant-loop-piece
+invariant-loop-piece g l =
+    PassesOn (g.O.Sink.written l.fn.out) l.fn.page (g.O.Sink.written l.out) l.page (records_text l.fn.word l.fn.t (members_of_all (take l.piece-index l.pieces)))
+    × (g.O.Sink.faults l.fn.out ≤ g.O.Sink.faults l.out)

@@ -1,0 +1,1 @@
+pub use Rattle.mining_model.specs.Text

@@ -1,0 +1,52 @@
+ghost use Rattle.std.specs.Prelude.{◌≡◌, ◌++◌};
+ghost use Rattle.graph_types.specs.Piece.{members_of_all};
+ghost use Rattle.job_io.specs.Ends.{Gathers, HasCause};
+ghost use Rattle.mining_model.specs.Text.{delta_text, done_text, records_text};
+
+use crate::line::{done, record};
+use graph_types::{Piece, PieceList, Stamp};
+use job_io::{Page, Sink, WriteFault};
+
+/// Writes a REM line for each piece that a timestamp took away and then a NEW line for each that it
+/// brought. What the page still holds at the end is not out yet. Takes no memory.
+pub fn write_delta<O: Sink>(
+    out: &mut O,
+    page: &mut Page,
+    t: Stamp,
+    rem: &PieceList,
+    add: &PieceList,
+) -> Result<(), WriteFault>
+    ensures text { Gathers (O.written out.old) page.old (O.written out.new) page.new
+        (delta_text t (members_of_all rem.now) (members_of_all add.now)) result }
+    ensures cause { HasCause (O.faults out.old) (O.faults out.new) result }
+{
+    write_records(out, page, b"REM", t, rem.as_slice())?;
+    write_records(out, page, b"NEW", t, add.as_slice())
+}
+
+/// Writes the line that closes a timestamp. What the page still holds is not out yet. Takes no
+/// memory.
+pub fn write_done<O: Sink>(out: &mut O, page: &mut Page, t: Stamp) -> Result<(), WriteFault>
+    ensures text { Gathers (O.written out.old) page.old (O.written out.new) page.new
+        (done_text t) result }
+    ensures cause { HasCause (O.faults out.old) (O.faults out.new) result }
+{
+    page.put(out, done(t).as_slice())
+}
+
+fn write_records<O: Sink>(
+    out: &mut O,
+    page: &mut Page,
+    word: &[u8; 3],
+    t: Stamp,
+    pieces: &[Piece],
+) -> Result<(), WriteFault>
+    ensures text { Gathers (O.written out.old) page.old (O.written out.new) page.new
+        (records_text word.now t (members_of_all pieces.now)) result }
+    ensures cause { HasCause (O.faults out.old) (O.faults out.new) result }
+{
+    for piece in pieces {
+        page.put(out, record(word, t, piece).as_slice())?;
+    }
+    Ok(())
+}

@@ -1,0 +1,110 @@
+-- What the lines of a job say, and what is written for them.
+use Rattle.std.specs.Prelude.{ℕ, suc, List, [], ◌∷◌, length, nat_lt, Option, None, Some, Result, Ok, Err, if◌then◌else◌}
+use Rattle.std.specs.Option.{unwrap_or}
+use Rattle.graph_types.specs.Graph.{Graph, empty_graph}
+use Rattle.graph_types.specs.declared.update.Update.{Update}
+use Rattle.job_io.specs.Lines.{Line, without_cr, most_line_bytes}
+use Rattle.job_io.specs.Fields.{words_of}
+use Rattle.mining_model.specs.Step.{Refusal, step}
+use Rattle.mining_model.specs.Embeddings.{Pattern, every_piece}
+use Rattle.mining_model.specs.Text.{text_upto}
+use Rattle.update_reader.specs.Grammar.{update_of}
+use Rattle.tesseract.specs.declared.header.Awaited.{Awaited}
+use Rattle.tesseract.specs.declared.header.Awaited.TheVariants as awaited
+use Rattle.tesseract.specs.declared.header.HeaderStep.{HeaderStep}
+use Rattle.tesseract.specs.declared.header.HeaderStep.TheVariants.{More, Ready}
+use Rattle.tesseract.specs.declared.status.Status.{Status}
+use Rattle.tesseract.specs.declared.status.Status.TheVariants as status
+use Rattle.tesseract.specs.declared.status.ProgramKind.TheVariants as program
+use Rattle.tesseract.specs.declared.status.InputKind.TheVariants as input
+use Rattle.tesseract.specs.declared.status.LimitKind.TheVariants as limit
+use Rattle.tesseract.specs.Header.{header_step}
+
+-- where the reading of a job stands: in its header, or among its updates with the graph that they left
+pub data Stage : Type 0 where
+  heading : Awaited → Stage
+  streaming : Pattern → Graph → Stage
+
+-- what a line does: it is refused, it leads on, or it is an update that the graph accepts
+pub data Judged : Type 0 where
+  refused : Status → Judged
+  moved : Stage → Judged
+  accepted : Update → Pattern → Graph → Judged
+
+-- a line of the header, where it has a form
+abbrev pub judged_header : ℕ → Option HeaderStep → Judged
+judged_header n None = refused (status.BadProgram n program.BadLine)
+judged_header n (Some (More next)) = moved (heading next)
+judged_header n (Some (Ready size)) = moved (streaming (every_piece size) empty_graph)
+
+-- an update, by what the graph makes of it
+abbrev pub judged_step : ℕ → Pattern → Update → Result Graph Refusal → Judged
+judged_step n pattern u (Ok after) = accepted u pattern after
+judged_step n pattern u (Err refusal) = refused (status.BadInput n input.BadLine)
+
+-- a line of the stream, where it is an update
+abbrev pub judged_update : ℕ → Pattern → Graph → Option Update → Judged
+judged_update n pattern g None = refused (status.BadInput n input.BadLine)
+judged_update n pattern g (Some u) = judged_step n pattern u (step g u)
+
+-- line n, which has at most the bytes that a line may have
+abbrev pub judged_line : ℕ → Stage → List ℕ → Judged
+judged_line n (heading next) bytes = judged_header n (header_step next (words_of (without_cr bytes)))
+judged_line n (streaming pattern g) bytes = judged_update n pattern g (update_of (without_cr bytes))
+
+-- the refusal of a line n that has more
+abbrev pub long_line : ℕ → Stage → Status
+long_line n (heading next) = status.BadProgram n program.BadLine
+long_line n (streaming pattern g) = status.BadInput n input.BadLine
+
+-- line n, where at most `most` lines are allowed
+abbrev pub judged : ℕ → ℕ → Stage → List ℕ → Judged
+judged most n stage bytes =
+    if nat_lt most n then refused (status.Limit limit.Lines n)
+    else if nat_lt most_line_bytes (length bytes) then refused (long_line n stage)
+    else judged_line n stage bytes
+
+-- What reading a job gives: the program, where its header is whole; the updates that were accepted; and how
+-- it ended, where `stop` is the refusal of a line, and `close` what holds where no line is refused.
+pub record Verdict : Type 0 where
+  pub pattern : Option Pattern
+  pub updates : List Update
+  pub stop : Option Status
+  pub close : Status
+
+-- nothing more is read
+abbrev pub ended : ℕ → Stage → Option Status → Verdict
+ended n (heading next) stop = record { pattern = None; updates = []; stop = stop; close = status.BadProgram n program.BadLine }
+ended n (streaming pattern g) stop = record { pattern = Some pattern; updates = []; stop = stop; close = status.Ok }
+
+-- u was accepted before all that
+abbrev pub with_update : Update → Verdict → Verdict
+with_update u v = record { pattern = v.pattern; updates = u ∷ v.updates; stop = v.stop; close = v.close }
+
+-- what comes of a line behind n others, and of those behind it
+abbrev pub led_on : ℕ → Stage → Judged → (Stage → Verdict) → Verdict
+led_on n stage (refused why) rest = ended n stage (Some why)
+led_on n stage (moved next) rest = rest next
+led_on n stage (accepted u pattern g) rest = with_update u (rest (streaming pattern g))
+
+-- The lines behind n others, of which at most `most` are allowed. The first that is refused ends the job.
+abbrev pub judge : ℕ → ℕ → Stage → List Line → Verdict
+judge most n stage [] = ended n stage None
+judge most n stage (line ∷ lines) = led_on n stage (judged most (suc n) stage line.bytes) (λ next. judge most (suc n) next lines)
+
+-- the verdict on a whole job
+abbrev pub verdict : ℕ → List Line → Verdict
+verdict most lines = judge most 0 (heading awaited.Mode) lines
+
+-- how a job ends
+abbrev pub end_of : Verdict → Status
+end_of v = unwrap_or v.stop v.close
+
+-- the text of timestamps 1 to the number of updates; nothing without a program
+abbrev pub text_under : Option Pattern → List Update → List ℕ
+text_under None us = []
+text_under (Some pattern) us = text_upto pattern us (length us)
+
+-- what is written for a job
+abbrev pub text_of : Verdict → List ℕ
+text_of v = text_under v.pattern v.updates

@@ -1,0 +1,10 @@
+pub mod Size
+pub mod Status
+pub mod Header
+pub mod Mining
+pub mod Miner
+pub mod Job
+pub mod Reading
+pub mod Progress
+pub mod Running
+pub mod Run

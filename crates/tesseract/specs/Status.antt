@@ -1,0 +1,41 @@
+-- What is said of how a run ended.
+use Rattle.std.specs.Prelude.{ℕ, List, [], ◌++◌, codes, decimal}
+use Rattle.tesseract.specs.declared.status.Status.{Status}
+use Rattle.tesseract.specs.declared.status.Status.TheVariants as status
+use Rattle.tesseract.specs.declared.status.ProgramKind.{ProgramKind}
+use Rattle.tesseract.specs.declared.status.ProgramKind.TheVariants as program
+use Rattle.tesseract.specs.declared.status.InputKind.{InputKind}
+use Rattle.tesseract.specs.declared.status.InputKind.TheVariants as input
+use Rattle.tesseract.specs.declared.status.LimitKind.{LimitKind}
+use Rattle.tesseract.specs.declared.status.LimitKind.TheVariants as limit
+
+-- the exit status
+abbrev pub number_of : Status → ℕ
+number_of status.Ok = 0
+number_of status.NoMemory = 1
+number_of status.Usage = 2
+number_of (status.BadProgram line kind) = 3
+number_of (status.BadInput line kind) = 4
+number_of (status.Limit kind at) = 5
+number_of status.ReadFault = 6
+number_of status.WriteFault = 7
+
+abbrev pub program_kind : ProgramKind → List ℕ
+program_kind program.BadLine = codes "BadLine"
+
+abbrev pub input_kind : InputKind → List ℕ
+input_kind input.BadLine = codes "BadLine"
+
+abbrev pub limit_kind : LimitKind → List ℕ
+limit_kind limit.Lines = codes "Lines"
+
+-- the line on standard error; of a run that ended well there is none
+abbrev pub line_of : Status → List ℕ
+line_of status.Ok = []
+line_of status.NoMemory = codes "no memory\n"
+line_of status.Usage = codes "usage: tesseract COMMAND [--NAME VALUE]\n"
+line_of (status.BadProgram line kind) = codes "program: line " ++ decimal line ++ codes ": " ++ program_kind kind ++ codes "\n"
+line_of (status.BadInput line kind) = codes "input: line " ++ decimal line ++ codes ": " ++ input_kind kind ++ codes "\n"
+line_of (status.Limit kind at) = codes "limit: " ++ limit_kind kind ++ codes " " ++ decimal at ++ codes "\n"
+line_of status.ReadFault = codes "read fault\n"
+line_of status.WriteFault = codes "write fault\n"

@@ -1,0 +1,86 @@
+ghost use Rattle.std.specs.Prelude.{◌≡◌, ◌+◌, ◌<◌, ◌^◌};
+ghost use Rattle.graph_types.specs.Graph.{empty_graph};
+ghost use Rattle.tesseract.specs.Miner.{Makes};
+
+use crate::size::Size;
+use graph_types::{PieceList, Snapshot, Stamp, Update};
+use plain_miner::{embeddings, without};
+use std::alloc::Global;
+use std::marker::Model;
+use update_rules::{StepFault, step};
+
+/// A graph that changes, and the connected pieces of up to `size` vertices that it has now. Contracts see
+/// the size, the graph and the last timestamp.
+#[derive(Drop)]
+pub struct Miner {
+    size: usize,
+    graph: Snapshot,
+    standing: PieceList,
+    stamp: Stamp,
+}
+
+impl Model for Miner {
+    ghost use Rattle.tesseract.specs.Mining.{Mining, mining_code, IsMining};
+
+    ghost Value = { Mining };
+
+    ghost coded = { mining_code };
+
+    ghost view = { λ m. record { size = m.size; graph = m.graph; stamp = m.stamp } };
+
+    ghost invariant = { λ m. IsMining m.size m.graph m.standing };
+}
+
+/// What an update took away and what it brought, both ascending.
+#[derive(Drop)]
+pub struct Changes {
+    pub rem: PieceList,
+    pub add: PieceList,
+}
+
+impl Miner {
+    /// Before the first update.
+    pub fn new(alloc: Global, size: Size) -> Miner
+        ensures { result ≡ record { size = size; graph = empty_graph; stamp = 0 } }
+    {
+        Miner {
+            size: size.members(),
+            graph: Snapshot::new(alloc),
+            standing: PieceList::new(alloc),
+            stamp: Stamp(0),
+        }
+    }
+
+    /// The timestamp of the last update.
+    pub fn stamp(&self) -> Stamp
+        ensures { result ≡ self.now.stamp }
+    {
+        self.stamp
+    }
+
+    /// Makes an update, and lists the pieces anew: this takes time exponential in the size.
+    pub fn make(self, alloc: Global, update: &Update) -> Result<(Miner, Changes), StepFault>
+        requires { self.stamp + 1 < 2 ^ 64 }
+        ensures { Makes self update.now result }
+    {
+        let Miner {
+            size,
+            mut graph,
+            standing: before,
+            stamp,
+        } = self;
+        step(&mut graph, update)?;
+        let standing = embeddings(alloc, size, &graph)?;
+        let changes = Changes {
+            rem: without(alloc, before.as_slice(), standing.as_slice())?,
+            add: without(alloc, standing.as_slice(), before.as_slice())?,
+        };
+        let miner = Miner {
+            size,
+            graph,
+            standing,
+            stamp: Stamp(stamp.0 + 1),
+        };
+        Ok((miner, changes))
+    }
+}

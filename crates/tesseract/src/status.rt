@@ -1,0 +1,146 @@
+ghost use Rattle.std.specs.Prelude.{◌≡◌, ◌≤◌, ◌++◌, length, codes, decimal};
+ghost use Rattle.tesseract.specs.Status.{program_kind, input_kind, limit_kind};
+
+use job_io::ShortLine;
+
+/// How a run ended.
+#[derive(Clone, Copy, Debug, PartialEq, Eq)]
+pub enum Status {
+    /// The input was read to its end and everything was written.
+    Ok,
+    /// An allocation was refused.
+    NoMemory,
+    /// The words of the command line are no command.
+    Usage,
+    /// The header is no program.
+    BadProgram { line: u64, kind: ProgramKind },
+    /// A line of the stream is refused.
+    BadInput { line: u64, kind: InputKind },
+    /// A quantity passed its limit at this place.
+    Limit { kind: LimitKind, at: u64 },
+    /// The input could not be read.
+    ReadFault,
+    /// The output could not be written.
+    WriteFault,
+}
+
+/// What is wrong with a header.
+#[derive(Clone, Copy, Debug, PartialEq, Eq)]
+pub enum ProgramKind {
+    BadLine,
+}
+
+/// What is wrong with a line of the stream.
+#[derive(Clone, Copy, Debug, PartialEq, Eq)]
+pub enum InputKind {
+    BadLine,
+}
+
+/// What is limited.
+#[derive(Clone, Copy, Debug, PartialEq, Eq)]
+pub enum LimitKind {
+    Lines,
+}
+
+impl Status {
+    ghost use Rattle.tesseract.specs.Status.{number_of, line_of};
+
+    /// The exit status of the program.
+    pub fn number(self) -> u8
+        ensures { result ≡ number_of self }
+    {
+        match self {
+            Status::Ok => 0,
+            Status::NoMemory => 1,
+            Status::Usage => 2,
+            Status::BadProgram { .. } => 3,
+            Status::BadInput { .. } => 4,
+            Status::Limit { .. } => 5,
+            Status::ReadFault => 6,
+            Status::WriteFault => 7,
+        }
+    }
+
+    /// The line that tells of it on standard error, with its LF; nothing where all went well.
+    pub fn line(self) -> ShortLine
+        ensures { result ≡ line_of self }
+    {
+        match self {
+            Status::Ok => ShortLine::new(),
+            Status::NoMemory => phrase(b"no memory\n"),
+            Status::Usage => phrase(b"usage: tesseract COMMAND [--NAME VALUE]\n"),
+            Status::BadProgram { line, kind } => refusal(b"program: line ", line, kind.name()),
+            Status::BadInput { line, kind } => refusal(b"input: line ", line, kind.name()),
+            Status::Limit { kind, at } => limit(kind.name(), at),
+            Status::ReadFault => phrase(b"read fault\n"),
+            Status::WriteFault => phrase(b"write fault\n"),
+        }
+    }
+}
+
+impl ProgramKind {
+    fn name(self) -> &'static [u8]
+        ensures name { result.now ≡ program_kind self }
+        ensures short { length result.now ≤ 100 }
+    {
+        match self {
+            ProgramKind::BadLine => b"BadLine",
+        }
+    }
+}
+
+impl InputKind {
+    fn name(self) -> &'static [u8]
+        ensures name { result.now ≡ input_kind self }
+        ensures short { length result.now ≤ 100 }
+    {
+        match self {
+            InputKind::BadLine => b"BadLine",
+        }
+    }
+}
+
+impl LimitKind {
+    fn name(self) -> &'static [u8]
+        ensures name { result.now ≡ limit_kind self }
+        ensures short { length result.now ≤ 100 }
+    {
+        match self {
+            LimitKind::Lines => b"Lines",
+        }
+    }
+}
+
+fn phrase(text: &[u8]) -> ShortLine
+    requires { length text.now ≤ 100 }
+    ensures { result ≡ text.now }
+{
+    let mut line = ShortLine::new();
+    line.push(text);
+    line
+}
+
+fn refusal(place: &[u8], number: u64, kind: &[u8]) -> ShortLine
+    requires place { length place.now ≤ 100 }
+    requires kind { length kind.now ≤ 100 }
+    ensures { result ≡ place.now ++ decimal number ++ codes ": " ++ kind.now ++ codes "\n" }
+{
+    let mut line = phrase(place);
+    line.push_number(number);
+    line.push(b": ");
+    line.push(kind);
+    line.push(b"\n");
+    line
+}
+
+fn limit(kind: &[u8], at: u64) -> ShortLine
+    requires { length kind.now ≤ 100 }
+    ensures { result ≡ codes "limit: " ++ kind.now ++ codes " " ++ decimal at ++ codes "\n" }
+{
+    let mut line = phrase(b"limit: ");
+    line.push(kind);
+    line.push(b" ");
+    line.push_number(at);
+    line.push(b"\n");
+    line
+}

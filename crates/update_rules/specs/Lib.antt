@@ -1,0 +1,2 @@
+pub use Rattle.mining_model.specs.Step
+pub mod Steps
