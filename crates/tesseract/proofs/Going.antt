@@ -1,110 +1,175 @@
 -- A run goes from line to line, and ends.
-use Rattle.std.proofs.Common.{◌≡◌, ℕ, suc, ◌⊎◌, inl, inr, Bool, true, false, List, [], ◌∷◌, ◌++◌, cond, Option, None, Some, refl, sym, ap, ◌∙◌, subst, append_assoc, append-nil}
+use Rattle.std.proofs.Common.{◌≡◌, ℕ, suc, ◌⊎◌, inl, inr, Bool, true, false, List, [], ◌∷◌, ◌++◌}
+use Rattle.std.proofs.Common.{cond, Option, None, Some, refl, sym, ap, ◌∙◌, subst, append_assoc}
+use Rattle.std.proofs.Common.{append-nil}
 use Rattle.std.specs.Prelude.{IsTrue}
 use Rattle.std.specs.Io.KnownBytes.{Appends}
 use Rattle.job_io.specs.Ends.{BothKnown, AppendsFront, PassesOn}
-use Rattle.job_io.proofs.Gathering.{Appends-then, PassesOn-start, PassesOn-then, AppendsFront-then, AppendsFront-more}
-use Rattle.job_io.specs.Lines.{lf, HasNoLf, Line, Reading, lines_of, whole_lines_of, line_text, GivesLine, GivesEnd, StopsInLine}
+use Rattle.job_io.proofs.Gathering.{Appends-then, PassesOn-start, PassesOn-then, AppendsFront-then}
+use Rattle.job_io.proofs.Gathering.{AppendsFront-more}
+use Rattle.job_io.specs.Lines.{lf, HasNoLf, Line, Reading, lines_of, whole_lines_of, line_text}
+use Rattle.job_io.specs.Lines.{GivesLine, GivesEnd, StopsInLine}
 use Rattle.job_io.proofs.LinesOf.{whole_lines_of-whole, whole_lines_of-none, lines_of-unfinished}
 use Rattle.tesseract.specs.declared.header.Awaited.TheVariants as awaited
 use Rattle.tesseract.specs.declared.status.Status.{Status}
 use Rattle.tesseract.specs.declared.status.Status.TheVariants as status
-use Rattle.tesseract.specs.Job.{Stage, heading, streaming, accepted, judged, ended, judge, verdict, text_of, end_of}
+use Rattle.tesseract.specs.Job.{Stage, heading, streaming, accepted, judged, ended, judge, verdict}
+use Rattle.tesseract.specs.Job.{text_of, end_of}
 use Rattle.tesseract.specs.Progress.{text_behind, Reached}
-use Rattle.tesseract.specs.Running.{Running, AtLine, WholeSoFar, IsBehindLast, LeadsOn, EndsClean, EndsRefused, Ends, IfUnread, IsJob, IsFrontOfJob, IsFrontOfText, Ended, WritesFront, Belongs, IsEnd, Mines}
-use Rattle.tesseract.proofs.Reaching.{IsStop, judged-stop, Reached-start, Reached-moved, Reached-accepted, Reached-refused_text, Reached-refused_end, Reached-end_text, Reached-end, Reached-no_stop}
+use Rattle.tesseract.specs.Run.{IsJob, IsFrontOfJob, WritesFront, Mines}
+use Rattle.tesseract.specs.Running.{Running, AtLine, WholeSoFar, IsBehindLast, EndsClean}
+use Rattle.tesseract.specs.Running.{EndsRefused, Ends}
+use Rattle.tesseract.specs.Running.{IfUnread, IsFrontOfText, Ended, IsEnd}
+use Rattle.tesseract.proofs.Leading.{LeadsOn, Belongs}
+use Rattle.tesseract.proofs.Reaching.{IsStop, judged-stop, Reached-start, Reached-moved}
+use Rattle.tesseract.proofs.Reaching.{Reached-accepted, Reached-refused_text, Reached-refused_end}
+use Rattle.tesseract.proofs.Reaching.{Reached-end_text, Reached-end, Reached-no_stop}
 
 -- what is known of bytes that have not changed
-pub BothKnown-same : (P : List ℕ → List ℕ → Type 0) (known : Option (List ℕ)) → ((bytes : List ℕ) → P bytes bytes) → BothKnown known known P
+pub BothKnown-same : (P : List ℕ → List ℕ → Type 0) (known : Option (List ℕ)) →
+    ((bytes : List ℕ) → P bytes bytes) → BothKnown known known P
 BothKnown-same P None p = tt
 BothKnown-same P (Some bytes) p = p bytes
 
 -- what is known of one change and of the next
-BothKnown-then : (P Q R : List ℕ → List ℕ → Type 0) (old mid new : Option (List ℕ)) → BothKnown old mid P → BothKnown mid new Q →
+BothKnown-then : (P Q R : List ℕ → List ℕ → Type 0) (old mid new : Option (List ℕ)) →
+    BothKnown old mid P → BothKnown mid new Q →
     ((was now is : List ℕ) → P was now → Q now is → R was is) → BothKnown old new R
 BothKnown-then P Q R None mid new p q join = tt
 BothKnown-then P Q R (Some was) None new p q join = absurd p
 BothKnown-then P Q R (Some was) (Some now) None p q join = absurd q
 BothKnown-then P Q R (Some was) (Some now) (Some is) p q join = join was now is p q
 
-pub BothKnown-map : (P Q : List ℕ → List ℕ → Type 0) (old new : Option (List ℕ)) → BothKnown old new P → ((was is : List ℕ) → P was is → Q was is) → BothKnown old new Q
+pub BothKnown-map : (P Q : List ℕ → List ℕ → Type 0) (old new : Option (List ℕ)) →
+    BothKnown old new P → ((was is : List ℕ) → P was is → Q was is) → BothKnown old new Q
 BothKnown-map P Q None new p f = tt
 BothKnown-map P Q (Some was) None p f = absurd p
 BothKnown-map P Q (Some was) (Some is) p f = f was is p
 
-pub Running-start : (most : ℕ) (left written : Option (List ℕ)) (reader : Reading) → IsTrue reader.line.whole → reader.number ≡ 0 → reader.held ≡ [] → Running most left left written written [] reader (heading awaited.Mode) 0
+pub Running-start : (most : ℕ) (left written : Option (List ℕ)) (reader : Reading) →
+    IsTrue reader.line.whole → reader.number ≡ 0 → reader.held ≡ [] →
+    Running most left left written written [] reader (heading awaited.Mode) 0
 Running-start most left written reader finished none empty = record {
   text = [];
   passed = PassesOn-start written [];
   known = BothKnown-same _ left (λ bytes. record {
     gone = [];
     lines = ap (λ held. lines_of (held ++ bytes)) (sym empty);
-    reached = subst (λ n. Reached most [] [] n 0 (heading awaited.Mode)) (sym none) (Reached-start most);
-    whole = inl (record { finished = finished; given = []; split = ap (λ held. held ++ bytes) (sym empty); whole_lines = λ more. refl });
+    reached =
+        subst (λ n. Reached most [] [] n 0 (heading awaited.Mode)) (sym none) (Reached-start most);
+    whole =
+        inl (record {
+          finished = finished;
+          given = [];
+          split = ap (λ held. held ++ bytes) (sym empty);
+          whole_lines = λ more. refl;
+        });
   });
 }
 
 -- the lines so far and the next one are judged
-reached_next : (most : ℕ) (gone : List Line) (text more : List ℕ) (n t u : ℕ) (stage next : Stage) (line : Line) →
-    Reached most gone text n t stage → LeadsOn most (suc n) stage t line.bytes next u more → Reached most (gone ++ line ∷ []) (text ++ more) (suc n) u next
+reached_next : (most : ℕ) (gone : List Line) (text more : List ℕ) (n t u : ℕ) (stage next : Stage)
+    (line : Line) →
+    Reached most gone text n t stage → LeadsOn most (suc n) stage t line.bytes next u more →
+    Reached most (gone ++ line ∷ []) (text ++ more) (suc n) u next
 reached_next most gone text more n t u stage next line reached (inl m) =
-    let so = Reached-moved most gone text n stage next line (subst (λ t. Reached most gone text n t stage) m.no_stamp reached) m.moved_is in
-    let same : text ≡ text ++ more = sym (append-nil text) ∙ ap (λ xs. text ++ xs) (sym m.no_text) in
+    let so =
+    Reached-moved most gone text n stage next line
+    (subst (λ t. Reached most gone text n t stage) m.no_stamp reached) m.moved_is in
+    let same : text ≡ text ++ more =
+    sym (append-nil text) ∙ ap (λ xs. text ++ xs) (sym m.no_text) in
     subst (λ u. Reached most (gone ++ line ∷ []) (text ++ more) (suc n) u next) (sym m.still_none)
     (subst (λ text. Reached most (gone ++ line ∷ []) text (suc n) 0 next) same so)
 reached_next most gone text more n t u stage next line reached (inr a) =
-    let at : Reached most gone text n t (streaming a.pattern a.before) = subst (Reached most gone text n t) a.stage_is reached in
-    let judged_is : judged most (suc n) (streaming a.pattern a.before) line.bytes ≡ accepted a.update a.pattern a.now =
+    let at : Reached most gone text n t (streaming a.pattern a.before) =
+    subst (Reached most gone text n t) a.stage_is reached in
+    let judged_is :
+    judged most (suc n) (streaming a.pattern a.before) line.bytes
+    ≡ accepted a.update a.pattern a.now =
     ap (λ s. judged most (suc n) s line.bytes) (sym a.stage_is) ∙ a.accepted_is in
-    let so = Reached-accepted most gone text n t a.pattern a.pattern a.before a.now a.update line at judged_is in
+    let so =
+    Reached-accepted most gone text n t a.pattern a.pattern a.before a.now a.update line at
+    judged_is in
     subst (λ u. Reached most (gone ++ line ∷ []) (text ++ more) (suc n) u next) (sym a.stamp_is)
     (subst (λ s. Reached most (gone ++ line ∷ []) (text ++ more) (suc n) (suc t) s) (sym a.next_is)
-    (subst (λ xs. Reached most (gone ++ line ∷ []) (text ++ xs) (suc n) (suc t) (streaming a.pattern a.now)) (sym a.text_is) so))
+    (subst
+    (λ xs. Reached most (gone ++ line ∷ []) (text ++ xs) (suc n) (suc t)
+    (streaming a.pattern a.now))
+    (sym a.text_is) so))
 
 -- what LFs ended so far, once the next line was given
-whole_next : (bytes was is : List ℕ) (gone : List Line) (old new : Reading) → HasNoLf new.line.bytes → GivesLine old new was is →
+whole_next : (bytes was is : List ℕ) (gone : List Line) (old new : Reading) →
+    HasNoLf new.line.bytes → GivesLine old new was is →
     (whole : Bool) → new.line.whole ≡ whole → WholeSoFar bytes was gone old ⊎ IsBehindLast was old →
     WholeSoFar bytes is (gone ++ new.line ∷ []) new ⊎ IsBehindLast is new
-whole_next bytes was is gone old new no_lf gives false no_end so_far = inr (record { unfinished = no_end; nothing = lines_of-unfinished (old.held ++ was) new.line (new.held ++ is) gives.lines no_end })
+whole_next bytes was is gone old new no_lf gives false no_end so_far =
+    inr (record {
+      unfinished = no_end;
+      nothing = lines_of-unfinished (old.held ++ was) new.line (new.held ++ is) gives.lines no_end;
+    })
 whole_next bytes was is gone old new no_lf gives true end (inr last) =
-    let none : ◌≡◌ {A = List Line} [] (new.line ∷ lines_of (new.held ++ is)) = ap lines_of (sym last.nothing) ∙ gives.lines in cc
+    let none : ◌≡◌ {A = List Line} [] (new.line ∷ lines_of (new.held ++ is)) =
+    ap lines_of (sym last.nothing) ∙ gives.lines in cc
 whole_next bytes was is gone old new no_lf gives true end (inl so_far) =
     let text = line_text new.line in
-    let text_is : text ≡ new.line.bytes ++ lf ∷ [] = ap (λ w. new.line.bytes ++ cond w (lf ∷ []) []) end in
-    let line_is : record { bytes = new.line.bytes; whole = true } ≡ new.line = ap (λ w. let line : Line = record { bytes = new.line.bytes; whole = w } in line) (sym end) in
-    let first : (more : List ℕ) → whole_lines_of (text ++ more) ≡ new.line ∷ whole_lines_of more = λ more.
-    ap (λ xs. whole_lines_of (xs ++ more)) text_is ∙ ap whole_lines_of (append_assoc new.line.bytes (lf ∷ []) more)
-    ∙ whole_lines_of-whole new.line.bytes more no_lf ∙ ap (λ line. line ∷ whole_lines_of more) line_is in
+    let text_is : text ≡ new.line.bytes ++ lf ∷ [] =
+    ap (λ w. new.line.bytes ++ cond w (lf ∷ []) []) end in
+    let line_is : record { bytes = new.line.bytes; whole = true } ≡ new.line =
+    ap (λ w. let line : Line = record { bytes = new.line.bytes; whole = w } in line)
+    (sym end) in
+    let first : (more : List ℕ) → whole_lines_of (text ++ more) ≡ new.line ∷ whole_lines_of more =
+    λ more.
+    ap (λ xs. whole_lines_of (xs ++ more)) text_is
+    ∙ ap whole_lines_of (append_assoc new.line.bytes (lf ∷ []) more)
+    ∙ whole_lines_of-whole new.line.bytes more no_lf
+    ∙ ap (λ line. line ∷ whole_lines_of more) line_is in
     inl (record {
       finished = end;
       given = so_far.given ++ text;
-      split = so_far.split ∙ ap (λ xs. so_far.given ++ xs) gives.bytes ∙ sym (append_assoc so_far.given text (new.held ++ is));
+      split =
+          so_far.split ∙ ap (λ xs. so_far.given ++ xs) gives.bytes
+          ∙ sym (append_assoc so_far.given text (new.held ++ is));
       whole_lines = λ more.
-          ap whole_lines_of (append_assoc so_far.given text more) ∙ so_far.whole_lines (text ++ more)
-          ∙ ap (λ lines. gone ++ lines) (first more) ∙ sym (append_assoc gone (new.line ∷ []) (whole_lines_of more));
+          ap whole_lines_of (append_assoc so_far.given text more)
+          ∙ so_far.whole_lines (text ++ more)
+          ∙ ap (λ lines. gone ++ lines) (first more)
+          ∙ sym (append_assoc gone (new.line ∷ []) (whole_lines_of more));
     })
 
 -- the next line leads on
-at_next : (most : ℕ) (bytes was is text more : List ℕ) (old new : Reading) (stage next : Stage) (t u : ℕ) → HasNoLf new.line.bytes → new.number ≡ suc old.number →
-    LeadsOn most (suc old.number) stage t new.line.bytes next u more → AtLine most bytes was text old stage t → GivesLine old new was is →
+at_next : (most : ℕ) (bytes was is text more : List ℕ) (old new : Reading) (stage next : Stage)
+    (t u : ℕ) → HasNoLf new.line.bytes → new.number ≡ suc old.number →
+    LeadsOn most (suc old.number) stage t new.line.bytes next u more →
+    AtLine most bytes was text old stage t → GivesLine old new was is →
     AtLine most bytes is (text ++ more) new next u
 at_next most bytes was is text more old new stage next t u no_lf counted leads at gives = record {
   gone = at.gone ++ new.line ∷ [];
-  lines = at.lines ∙ ap (λ lines. at.gone ++ lines) gives.lines ∙ sym (append_assoc at.gone (new.line ∷ []) (lines_of (new.held ++ is)));
-  reached = subst (λ n. Reached most (at.gone ++ new.line ∷ []) (text ++ more) n u next) (sym counted)
+  lines =
+      at.lines ∙ ap (λ lines. at.gone ++ lines) gives.lines
+      ∙ sym (append_assoc at.gone (new.line ∷ []) (lines_of (new.held ++ is)));
+  reached =
+      subst (λ n. Reached most (at.gone ++ new.line ∷ []) (text ++ more) n u next) (sym counted)
       (reached_next most at.gone text more old.number t u stage next new.line at.reached leads);
   whole = whole_next bytes was is at.gone old new no_lf gives new.line.whole refl at.whole;
 }
 
-pub Running-led : (most : ℕ) (left0 left left' written0 written written' : Option (List ℕ)) (page page' more : List ℕ) (old new : Reading) (stage next : Stage) (t u : ℕ) →
-    HasNoLf new.line.bytes → new.number ≡ suc old.number → LeadsOn most (suc old.number) stage t new.line.bytes next u more → PassesOn written page written' page' more →
-    BothKnown left left' (GivesLine old new) → Running most left0 left written0 written page old stage t → Running most left0 left' written0 written' page' new next u
-Running-led most left0 left left' written0 written written' page page' more old new stage next t u no_lf counted leads passed gives running = record {
-  text = running.text ++ more;
-  passed = PassesOn-then running.passed passed;
-  known = BothKnown-then _ _ _ left0 left left' running.known gives
-      (λ bytes was is at given. at_next most bytes was is running.text more old new stage next t u no_lf counted leads at given);
-}
+pub Running-led : (most : ℕ) (left0 left left' written0 written written' : Option (List ℕ))
+    (page page' more : List ℕ) (old new : Reading) (stage next : Stage) (t u : ℕ) →
+    HasNoLf new.line.bytes → new.number ≡ suc old.number →
+    LeadsOn most (suc old.number) stage t new.line.bytes next u more →
+    PassesOn written page written' page' more →
+    BothKnown left left' (GivesLine old new) →
+    Running most left0 left written0 written page old stage t →
+    Running most left0 left' written0 written' page' new next u
+Running-led most left0 left left' written0 written written' page page' more old new stage next t u
+    no_lf counted leads passed gives running = record {
+      text = running.text ++ more;
+      passed = PassesOn-then running.passed passed;
+      known = BothKnown-then _ _ _ left0 left left' running.known gives
+          (λ bytes was is at given.
+          at_next most bytes was is running.text more old new stage next t u no_lf counted leads
+          at given);
+    }
 
 -- where no source failed
 unless_unread : (why : Status) (unread read : Type 0) → IsStop why → read → IfUnread why unread read
@@ -117,119 +182,197 @@ unless_unread status.Usage unread read stop so = absurd stop
 unless_unread status.ReadFault unread read stop so = absurd stop
 unless_unread status.WriteFault unread read stop so = absurd stop
 
-unless_unread_clean : (n : ℕ) (stage : Stage) (unread read : Type 0) → read → IfUnread (end_of (ended n stage None)) unread read
+unless_unread_clean : (n : ℕ) (stage : Stage) (unread read : Type 0) → read →
+    IfUnread (end_of (ended n stage None)) unread read
 unless_unread_clean n (heading next) unread read so = so
 unless_unread_clean n (streaming pattern g) unread read so = so
 
-module _ (most : ℕ) (bytes was is text : List ℕ) (old new : Reading) (stage : Stage) (t : ℕ) (at : AtLine most bytes was text old stage t) where
+module _ (most : ℕ) (bytes was is text : List ℕ) (old new : Reading) (stage : Stage) (t : ℕ)
+    (at : AtLine most bytes was text old stage t) where
   -- the text so far is a front of the whole
   front_at : IsFrontOfText most bytes text
   front_at = (
     text_behind stage t (judge most old.number stage (lines_of (old.held ++ was))),
-    ap (λ lines. text_of (verdict most lines)) at.lines ∙ at.reached.whole_text (lines_of (old.held ++ was)),
+    ap (λ lines. text_of (verdict most lines)) at.lines
+        ∙ at.reached.whole_text (lines_of (old.held ++ was)),
   )
 
   -- no line follows
-  nothing_left : GivesEnd old new was is → WholeSoFar bytes was at.gone old ⊎ IsBehindLast was old → old.held ++ was ≡ []
+  nothing_left : GivesEnd old new was is → WholeSoFar bytes was at.gone old ⊎ IsBehindLast was old →
+      old.held ++ was ≡ []
   nothing_left ends (inl so_far) = ends.taken ∙ ends.ended so_far.finished
   nothing_left ends (inr last) = last.nothing
 
   job_clean : (why : Status) → EndsClean old new was is stage why → IsJob most bytes text why
   job_clean why ends =
-      let lines : lines_of bytes ≡ at.gone = at.lines ∙ ap (λ xs. at.gone ++ lines_of xs) (nothing_left ends.gives_end at.whole) ∙ append-nil at.gone in
+      let lines : lines_of bytes ≡ at.gone =
+      at.lines ∙ ap (λ xs. at.gone ++ lines_of xs) (nothing_left ends.gives_end at.whole)
+      ∙ append-nil at.gone in
       record {
-        text_is = sym (Reached-end_text most at.gone text old.number t stage at.reached) ∙ ap (λ lines. text_of (verdict most lines)) (sym lines);
-        end_is = ends.why_is ∙ sym (Reached-end most at.gone text old.number t stage at.reached) ∙ ap (λ lines. end_of (verdict most lines)) (sym lines);
+        text_is =
+            sym (Reached-end_text most at.gone text old.number t stage at.reached)
+            ∙ ap (λ lines. text_of (verdict most lines)) (sym lines);
+        end_is =
+            ends.why_is ∙ sym (Reached-end most at.gone text old.number t stage at.reached)
+            ∙ ap (λ lines. end_of (verdict most lines)) (sym lines);
       }
 
-  job_refused : (why : Status) → EndsRefused most (old.held ++ was) old.number stage why → IsJob most bytes text why
+  job_refused : (why : Status) → EndsRefused most (old.held ++ was) old.number stage why →
+      IsJob most bytes text why
   job_refused why ends =
-      let lines : lines_of bytes ≡ at.gone ++ ends.line ∷ ends.others = at.lines ∙ ap (λ lines. at.gone ++ lines) ends.follows in
+      let lines : lines_of bytes ≡ at.gone ++ ends.line ∷ ends.others =
+      at.lines ∙ ap (λ lines. at.gone ++ lines) ends.follows in
       record {
-        text_is = sym (Reached-refused_text most at.gone text old.number t stage at.reached ends.line ends.others why ends.refused_is) ∙ ap (λ lines. text_of (verdict most lines)) (sym lines);
-        end_is = sym (Reached-refused_end most at.gone text old.number t stage at.reached ends.line ends.others why ends.refused_is) ∙ ap (λ lines. end_of (verdict most lines)) (sym lines);
+        text_is =
+            sym (Reached-refused_text most at.gone text old.number t stage at.reached ends.line
+            ends.others why ends.refused_is)
+            ∙ ap (λ lines. text_of (verdict most lines)) (sym lines);
+        end_is =
+            sym (Reached-refused_end most at.gone text old.number t stage at.reached ends.line
+            ends.others why ends.refused_is)
+            ∙ ap (λ lines. end_of (verdict most lines)) (sym lines);
       }
 
-  job_unread : StopsInLine old new was is → WholeSoFar bytes was at.gone old ⊎ IsBehindLast was old → IsFrontOfJob most bytes is text
-  job_unread stops (inr last) = let no : false ≡ true = sym last.unfinished ∙ stops.after_whole in cc
+  job_unread : StopsInLine old new was is →
+      WholeSoFar bytes was at.gone old ⊎ IsBehindLast was old → IsFrontOfJob most bytes is text
+  job_unread stops (inr last) =
+      let no : false ≡ true = sym last.unfinished ∙ stops.after_whole in cc
   job_unread stops (inl so_far) =
       let lines : whole_lines_of (so_far.given ++ new.held) ≡ at.gone =
-      so_far.whole_lines new.held ∙ ap (λ lines. at.gone ++ lines) (whole_lines_of-none new.held stops.no_line) ∙ append-nil at.gone in
+      so_far.whole_lines new.held
+      ∙ ap (λ lines. at.gone ++ lines) (whole_lines_of-none new.held stops.no_line)
+      ∙ append-nil at.gone in
       record {
         taken = so_far.given ++ new.held;
-        split = so_far.split ∙ ap (λ xs. so_far.given ++ xs) stops.taken ∙ sym (append_assoc so_far.given new.held is);
-        text_is = sym (Reached-end_text most at.gone text old.number t stage at.reached) ∙ ap (λ lines. text_of (verdict most lines)) (sym lines);
-        no_stop = ap (λ lines. (verdict most lines).stop) lines ∙ Reached-no_stop most at.gone text old.number t stage at.reached;
+        split =
+            so_far.split ∙ ap (λ xs. so_far.given ++ xs) stops.taken
+            ∙ sym (append_assoc so_far.given new.held is);
+        text_is =
+            sym (Reached-end_text most at.gone text old.number t stage at.reached)
+            ∙ ap (λ lines. text_of (verdict most lines)) (sym lines);
+        no_stop =
+            ap (λ lines. (verdict most lines).stop) lines
+            ∙ Reached-no_stop most at.gone text old.number t stage at.reached;
       }
 
-  job_at : (why : Status) → Ends most old new was is stage why → IfUnread why (IsFrontOfJob most bytes is text) (IsJob most bytes text why)
+  job_at : (why : Status) → Ends most old new was is stage why →
+      IfUnread why (IsFrontOfJob most bytes is text) (IsJob most bytes text why)
   job_at why (inl ends) =
-      subst (λ end. IfUnread end (IsFrontOfJob most bytes is text) (IsJob most bytes text end)) (sym ends.why_is)
-      (unless_unread_clean old.number stage _ _ (subst (IsJob most bytes text) ends.why_is (job_clean why ends)))
-  job_at why (inr (inl ends)) = unless_unread why _ _ (judged-stop most (suc old.number) stage ends.line.bytes why ends.refused_is) (job_refused why ends)
+      subst (λ end. IfUnread end (IsFrontOfJob most bytes is text) (IsJob most bytes text end))
+      (sym ends.why_is)
+      (unless_unread_clean old.number stage _ _
+      (subst (IsJob most bytes text) ends.why_is (job_clean why ends)))
+  job_at why (inr (inl ends)) =
+      unless_unread why _ _
+      (judged-stop most (suc old.number) stage ends.line.bytes why ends.refused_is)
+      (job_refused why ends)
   job_at why (inr (inr ends)) =
-      subst (λ end. IfUnread end (IsFrontOfJob most bytes is text) (IsJob most bytes text end)) (sym ends.why_is) (job_unread ends.stops at.whole)
+      subst (λ end. IfUnread end (IsFrontOfJob most bytes is text) (IsJob most bytes text end))
+      (sym ends.why_is) (job_unread ends.stops at.whole)
 
-pub Running-ended : (most : ℕ) (left0 left left' written0 written written' : Option (List ℕ)) (page page' : List ℕ) (old new : Reading) (stage : Stage) (t : ℕ) (why : Status) →
-    PassesOn written page written' page' [] → BothKnown left left' (λ was is. Ends most old new was is stage why) →
-    Running most left0 left written0 written page old stage t → Ended most left0 left' written0 written' page' why
-Running-ended most left0 left left' written0 written written' page page' old new stage t why passed ends running = record {
-  text = running.text;
-  passed = subst (PassesOn written0 [] written' page') (append-nil running.text) (PassesOn-then running.passed passed);
-  front = BothKnown-then _ _ _ left0 left left' running.known ends (λ bytes was is at end. front_at most bytes was is running.text old new stage t at);
-  job = BothKnown-then _ _ _ left0 left left' running.known ends (λ bytes was is at end. job_at most bytes was is running.text old new stage t at why end);
-}
+pub Running-ended : (most : ℕ) (left0 left left' written0 written written' : Option (List ℕ))
+    (page page' : List ℕ) (old new : Reading) (stage : Stage) (t : ℕ) (why : Status) →
+    PassesOn written page written' page' [] →
+    BothKnown left left' (λ was is. Ends most old new was is stage why) →
+    Running most left0 left written0 written page old stage t →
+    Ended most left0 left' written0 written' page' why
+Running-ended most left0 left left' written0 written written' page page' old new stage t why passed
+    ends running = record {
+      text = running.text;
+      passed =
+          subst (PassesOn written0 [] written' page') (append-nil running.text)
+          (PassesOn-then running.passed passed);
+      front =
+          BothKnown-then _ _ _ left0 left left' running.known ends
+          (λ bytes was is at end. front_at most bytes was is running.text old new stage t at);
+      job =
+          BothKnown-then _ _ _ left0 left left' running.known ends
+          (λ bytes was is at end. job_at most bytes was is running.text old new stage t at why end);
+    }
 
 -- what follows the text so far, where `more` belongs to the next line
-front_with : (most : ℕ) (bytes was is text more : List ℕ) (old : Reading) (stage : Stage) (t : ℕ) → AtLine most bytes was text old stage t →
-    Belongs most (old.held ++ was) old.number stage t more → (rest : List ℕ) × (text_of (verdict most (lines_of bytes)) ≡ (text ++ more) ++ rest)
+front_with : (most : ℕ) (bytes was is text more : List ℕ) (old : Reading) (stage : Stage) (t : ℕ) →
+    AtLine most bytes was text old stage t →
+    Belongs most (old.held ++ was) old.number stage t more →
+    (rest : List ℕ) × (text_of (verdict most (lines_of bytes)) ≡ (text ++ more) ++ rest)
 front_with most bytes was is text more old stage t at (inl none) =
-    let front = front_at most bytes was is text old old stage t at in
-    (front.0, front.1 ∙ ap (λ text. text ++ front.0) (sym (append-nil text) ∙ ap (λ xs. text ++ xs) (sym none)))
+    let front = front_at most bytes was is text old old stage t at in (
+      front.0,
+      front.1
+          ∙ ap (λ text. text ++ front.0) (sym (append-nil text) ∙ ap (λ xs. text ++ xs) (sym none)),
+    )
 front_with most bytes was is text more old stage t at (inr next) =
-    let reached = reached_next most at.gone text more old.number t next.stamp_after stage next.stage_after next.line at.reached (inr next.accepts) in (
-      text_behind next.stage_after next.stamp_after (judge most (suc old.number) next.stage_after next.others),
-      ap (λ lines. text_of (verdict most lines)) (at.lines ∙ ap (λ lines. at.gone ++ lines) next.follows ∙ sym (append_assoc at.gone (next.line ∷ []) next.others))
+    let reached =
+    reached_next most at.gone text more old.number t next.stamp_after stage next.stage_after
+    next.line at.reached (inr next.accepts) in (
+      text_behind next.stage_after next.stamp_after
+          (judge most (suc old.number) next.stage_after next.others),
+      ap (λ lines. text_of (verdict most lines))
+          (at.lines ∙ ap (λ lines. at.gone ++ lines) next.follows
+          ∙ sym (append_assoc at.gone (next.line ∷ []) next.others))
           ∙ reached.whole_text next.others,
     )
 
-pub Running-fails : (most : ℕ) (left0 left left' written0 written written' : Option (List ℕ)) (page more : List ℕ) (old : Reading) (stage : Stage) (t : ℕ) →
-    AppendsFront written written' (page ++ more) → BothKnown left left' (λ was is. Belongs most (old.held ++ was) old.number stage t more) →
-    Running most left0 left written0 written page old stage t → WritesFront most left0 left' written0 written'
-Running-fails most left0 left left' written0 written written' page more old stage t front belongs running =
+pub Running-fails : (most : ℕ) (left0 left left' written0 written written' : Option (List ℕ))
+    (page more : List ℕ) (old : Reading) (stage : Stage) (t : ℕ) →
+    AppendsFront written written' (page ++ more) →
+    BothKnown left left' (λ was is. Belongs most (old.held ++ was) old.number stage t more) →
+    Running most left0 left written0 written page old stage t →
+    WritesFront most left0 left' written0 written'
+Running-fails most left0 left left' written0 written written' page more old stage t front belongs
+    running =
     BothKnown-then _ _ _ left0 left left' running.known belongs (λ bytes was is at next.
     let rest = front_with most bytes was is running.text more old stage t at next in
     subst (AppendsFront written0 written') (sym rest.1)
     (AppendsFront-more rest.0 (AppendsFront-then more running.passed front)))
 
 -- all of what was passed on and held is written
-all_written : (most : ℕ) (left0 left' written0 written written' : Option (List ℕ)) (page : List ℕ) (why : Status) → Appends written written' page →
-    (ended : Ended most left0 left' written0 written page why) → Appends written0 written' ended.text
+all_written : (most : ℕ) (left0 left' written0 written written' : Option (List ℕ)) (page : List ℕ)
+    (why : Status) → Appends written written' page →
+    (ended : Ended most left0 left' written0 written page why) →
+    Appends written0 written' ended.text
 all_written most left0 left' written0 written written' page why sent ended =
-    subst (Appends written0 written') ended.passed.rest (Appends-then written0 written written' ended.passed.sent page ended.passed.written sent)
+    subst (Appends written0 written') ended.passed.rest
+    (Appends-then written0 written written' ended.passed.sent page ended.passed.written sent)
 
-mines_with : (most : ℕ) (left0 left written0 written : Option (List ℕ)) (text : List ℕ) (why : Status) → IsEnd why → Appends written0 written text →
-    BothKnown left0 left (λ bytes is. IfUnread why (IsFrontOfJob most bytes is text) (IsJob most bytes text why)) → Mines most left0 left written0 written why
-mines_with most left0 left written0 written text status.Ok end out job = BothKnown-map _ _ left0 left job (λ bytes is so. (text, so, out))
+mines_with : (most : ℕ) (left0 left written0 written : Option (List ℕ)) (text : List ℕ)
+    (why : Status) → IsEnd why → Appends written0 written text →
+    BothKnown left0 left (λ bytes is.
+    IfUnread why (IsFrontOfJob most bytes is text) (IsJob most bytes text why)) →
+    Mines most left0 left written0 written why
+mines_with most left0 left written0 written text status.Ok end out job =
+    BothKnown-map _ _ left0 left job (λ bytes is so. (text, so, out))
 mines_with most left0 left written0 written text status.NoMemory end out job = absurd end
 mines_with most left0 left written0 written text status.Usage end out job = absurd end
-mines_with most left0 left written0 written text (status.BadProgram line kind) end out job = BothKnown-map _ _ left0 left job (λ bytes is so. (text, so, out))
-mines_with most left0 left written0 written text (status.BadInput line kind) end out job = BothKnown-map _ _ left0 left job (λ bytes is so. (text, so, out))
-mines_with most left0 left written0 written text (status.Limit kind at) end out job = BothKnown-map _ _ left0 left job (λ bytes is so. (text, so, out))
-mines_with most left0 left written0 written text status.ReadFault end out job = BothKnown-map _ _ left0 left job (λ bytes is so. (text, so, out))
+mines_with most left0 left written0 written text (status.BadProgram line kind) end out job =
+    BothKnown-map _ _ left0 left job (λ bytes is so. (text, so, out))
+mines_with most left0 left written0 written text (status.BadInput line kind) end out job =
+    BothKnown-map _ _ left0 left job (λ bytes is so. (text, so, out))
+mines_with most left0 left written0 written text (status.Limit kind at) end out job =
+    BothKnown-map _ _ left0 left job (λ bytes is so. (text, so, out))
+mines_with most left0 left written0 written text status.ReadFault end out job =
+    BothKnown-map _ _ left0 left job (λ bytes is so. (text, so, out))
 mines_with most left0 left written0 written text status.WriteFault end out job = absurd end
 
 -- the page is sent at the end
-pub Ended-sent : (most : ℕ) (left0 left' written0 written written' : Option (List ℕ)) (page : List ℕ) (why : Status) → IsEnd why → Appends written written' page →
+pub Ended-sent : (most : ℕ) (left0 left' written0 written written' : Option (List ℕ))
+    (page : List ℕ) (why : Status) → IsEnd why → Appends written written' page →
     Ended most left0 left' written0 written page why → Mines most left0 left' written0 written' why
 Ended-sent most left0 left' written0 written written' page why end sent ended =
     let text = ended.text in
-    mines_with most left0 left' written0 written' text why end (all_written most left0 left' written0 written written' page why sent ended) ended.job
+    mines_with most left0 left' written0 written' text why end
+    (all_written most left0 left' written0 written written' page why sent ended) ended.job
 
 -- the page could not be sent at the end
-pub Ended-fails : (most : ℕ) (left0 left' written0 written written' : Option (List ℕ)) (page : List ℕ) (why : Status) → AppendsFront written written' page →
-    Ended most left0 left' written0 written page why → WritesFront most left0 left' written0 written'
+pub Ended-fails : (most : ℕ) (left0 left' written0 written written' : Option (List ℕ))
+    (page : List ℕ) (why : Status) → AppendsFront written written' page →
+    Ended most left0 left' written0 written page why →
+    WritesFront most left0 left' written0 written'
 Ended-fails most left0 left' written0 written written' page why sent ended =
-    let front : AppendsFront written0 written' (ended.text ++ []) = AppendsFront-then [] ended.passed (AppendsFront-more [] sent) in
-    let so : AppendsFront written0 written' ended.text = subst (AppendsFront written0 written') (append-nil ended.text) front in
-    BothKnown-map _ _ left0 left' ended.front (λ bytes is rest. subst (AppendsFront written0 written') (sym rest.1) (AppendsFront-more rest.0 so))
+    let front : AppendsFront written0 written' (ended.text ++ []) =
+    AppendsFront-then [] ended.passed (AppendsFront-more [] sent) in
+    let so : AppendsFront written0 written' ended.text =
+    subst (AppendsFront written0 written') (append-nil ended.text) front in
+    BothKnown-map _ _ left0 left' ended.front
+    (λ bytes is rest. subst (AppendsFront written0 written') (sym rest.1)
+    (AppendsFront-more rest.0 so))

@@ -1,5 +1,6 @@
 pub mod Reaching
+pub mod Leading
 pub mod Going
-pub mod Making
 pub mod Taking
 pub mod Turning
+pub mod Making

@@ -1,5 +1,7 @@
 -- The reading of a job goes on line by line.
-use Rattle.std.proofs.Common.{◌≡◌, ℕ, suc, Bool, true, false, List, [], ◌∷◌, ◌++◌, length, cond, Result, Ok, Err, nat_lt, Option, None, Some, refl, sym, ap, ◌∙◌, subst, append_assoc, append-nil}
+use Rattle.std.proofs.Common.{◌≡◌, ℕ, suc, Bool, true, false, List, [], ◌∷◌, ◌++◌, length, cond}
+use Rattle.std.proofs.Common.{Result, Ok, Err, nat_lt, Option, None, Some, refl, sym, ap, ◌∙◌}
+use Rattle.std.proofs.Common.{subst, append_assoc, append-nil}
 use Rattle.graph_types.specs.Graph.{Graph, empty_graph}
 use Rattle.graph_types.specs.declared.update.Update.{Update}
 use Rattle.job_io.specs.Lines.{Line, without_cr, most_line_bytes}
@@ -16,7 +18,10 @@ use Rattle.tesseract.specs.declared.header.HeaderStep.TheVariants.{More, Ready}
 use Rattle.tesseract.specs.Header.{header_step}
 use Rattle.tesseract.specs.declared.status.Status.{Status}
 use Rattle.tesseract.specs.declared.status.Status.TheVariants as status
-use Rattle.tesseract.specs.Job.{Stage, heading, streaming, Judged, refused, moved, accepted, judged_header, judged_step, judged_update, judged_line, judged, long_line, Verdict, ended, led_on, judge, verdict, text_of, text_under, end_of}
+use Rattle.tesseract.specs.Job.{Stage, heading, streaming, Judged, refused, moved, accepted}
+use Rattle.tesseract.specs.Job.{judged_header, judged_step, judged_update, judged_line, judged}
+use Rattle.tesseract.specs.Job.{long_line, Verdict, ended, led_on, judge, verdict, text_of}
+use Rattle.tesseract.specs.Job.{text_under, end_of}
 use Rattle.tesseract.specs.Progress.{text_behind, Reached}
 
 -- what a refused line ends a job with
@@ -39,25 +44,31 @@ choice : (P : Judged → Type 0) (b : Bool) (x y : Judged) → P x → P y → P
 choice P true x y p q = p
 choice P false x y p q = q
 
-follows_header : (n : ℕ) (next : Awaited) (step : Option HeaderStep) → Follows (heading next) (judged_header n step)
+follows_header : (n : ℕ) (next : Awaited) (step : Option HeaderStep) →
+    Follows (heading next) (judged_header n step)
 unfolding Follows
 follows_header n next None = tt
 follows_header n next (Some (More later)) = tt
 follows_header n next (Some (Ready size)) = refl
 
-follows_step : (n : ℕ) (pattern : Pattern) (g : Graph) (u : Update) (stepped : Result Graph Refusal) → step g u ≡ stepped → Follows (streaming pattern g) (judged_step n pattern u stepped)
+follows_step : (n : ℕ) (pattern : Pattern) (g : Graph) (u : Update)
+    (stepped : Result Graph Refusal) → step g u ≡ stepped →
+    Follows (streaming pattern g) (judged_step n pattern u stepped)
 unfolding Follows
 follows_step n pattern g u (Ok now) is = (refl, sym (ap (left_by g) is))
 follows_step n pattern g u (Err refusal) is = tt
 
-follows_update : (n : ℕ) (pattern : Pattern) (g : Graph) (u : Option Update) → Follows (streaming pattern g) (judged_update n pattern g u)
+follows_update : (n : ℕ) (pattern : Pattern) (g : Graph) (u : Option Update) →
+    Follows (streaming pattern g) (judged_update n pattern g u)
 unfolding Follows
 follows_update n pattern g None = tt
 follows_update n pattern g (Some u) = follows_step n pattern g u (step g u) refl
 
 follows_line : (n : ℕ) (stage : Stage) (bytes : List ℕ) → Follows stage (judged_line n stage bytes)
-follows_line n (heading next) bytes = follows_header n next (header_step next (words_of (without_cr bytes)))
-follows_line n (streaming pattern g) bytes = follows_update n pattern g (update_of (without_cr bytes))
+follows_line n (heading next) bytes =
+    follows_header n next (header_step next (words_of (without_cr bytes)))
+follows_line n (streaming pattern g) bytes =
+    follows_update n pattern g (update_of (without_cr bytes))
 
 stop_long : (n : ℕ) (stage : Stage) → IsStop (long_line n stage)
 stop_long n (heading next) = tt
@@ -66,32 +77,45 @@ stop_long n (streaming pattern g) = tt
 follows : (most n : ℕ) (stage : Stage) (bytes : List ℕ) → Follows stage (judged most n stage bytes)
 unfolding Follows
 follows most n stage bytes =
-    choice (Follows stage) (nat_lt most n) _ _ tt (choice (Follows stage) (nat_lt most_line_bytes (length bytes)) _ _ (stop_long n stage) (follows_line n stage bytes))
+    choice (Follows stage) (nat_lt most n) _ _ tt
+    (choice (Follows stage) (nat_lt most_line_bytes (length bytes)) _ _ (stop_long n stage)
+    (follows_line n stage bytes))
 
-led_pattern : (n : ℕ) (pattern : Pattern) (g : Graph) (j : Judged) (rest : Stage → Verdict) → Follows (streaming pattern g) j → ((now : Graph) → (rest (streaming pattern now)).pattern ≡ Some pattern) → (led_on n (streaming pattern g) j rest).pattern ≡ Some pattern
+led_pattern : (n : ℕ) (pattern : Pattern) (g : Graph) (j : Judged) (rest : Stage → Verdict) →
+    Follows (streaming pattern g) j →
+    ((now : Graph) → (rest (streaming pattern now)).pattern ≡ Some pattern) →
+    (led_on n (streaming pattern g) j rest).pattern ≡ Some pattern
 unfolding Follows
 led_pattern n pattern g (refused why) rest f same = refl
 led_pattern n pattern g (moved next) rest f same = absurd f
-led_pattern n pattern g (accepted u other now) rest f same = ap (λ q. (rest (streaming q now)).pattern) f.0 ∙ same now
+led_pattern n pattern g (accepted u other now) rest f same =
+    ap (λ q. (rest (streaming q now)).pattern) f.0 ∙ same now
 
 -- a verdict behind a stage of the stream has the stage's program
-streaming_pattern : (most n : ℕ) (pattern : Pattern) (g : Graph) (lines : List Line) → (judge most n (streaming pattern g) lines).pattern ≡ Some pattern
+streaming_pattern : (most n : ℕ) (pattern : Pattern) (g : Graph) (lines : List Line) →
+    (judge most n (streaming pattern g) lines).pattern ≡ Some pattern
 streaming_pattern most n pattern g [] = refl
 streaming_pattern most n pattern g (line ∷ lines) =
-    led_pattern n pattern g (judged most (suc n) (streaming pattern g) line.bytes) (λ next. judge most (suc n) next lines)
-    (follows most (suc n) (streaming pattern g) line.bytes) (λ now. streaming_pattern most (suc n) pattern now lines)
+    led_pattern n pattern g (judged most (suc n) (streaming pattern g) line.bytes)
+    (λ next. judge most (suc n) next lines)
+    (follows most (suc n) (streaming pattern g) line.bytes)
+    (λ now. streaming_pattern most (suc n) pattern now lines)
 
 -- nothing was read yet
 pub Reached-start : (most : ℕ) → Reached most [] [] 0 0 (heading awaited.Mode)
-Reached-start most = record { whole_text = λ lines. refl; whole_end = λ lines. refl; whole_stop = λ lines. refl }
+Reached-start most =
+    record { whole_text = λ lines. refl; whole_end = λ lines. refl; whole_stop = λ lines. refl }
 
 module _ (most n : ℕ) (stage : Stage) (line : Line) where
   -- the verdict on a line and those behind it, by what the line does
-  judge-cons : (j : Judged) → judged most (suc n) stage line.bytes ≡ j → (lines : List Line) → judge most n stage (line ∷ lines) ≡ led_on n stage j (λ next. judge most (suc n) next lines)
+  judge-cons : (j : Judged) → judged most (suc n) stage line.bytes ≡ j → (lines : List Line) →
+      judge most n stage (line ∷ lines) ≡ led_on n stage j (λ next. judge most (suc n) next lines)
   judge-cons j is lines = ap (λ j. led_on n stage j (λ next. judge most (suc n) next lines)) is
 
 -- a line of the header leads on, and no timestamp comes of it
-text_behind-moved : (most n : ℕ) (stage next : Stage) (lines : List Line) → Follows stage (moved next) → text_behind stage 0 (judge most n next lines) ≡ text_behind next 0 (judge most n next lines)
+text_behind-moved : (most n : ℕ) (stage next : Stage) (lines : List Line) →
+    Follows stage (moved next) →
+    text_behind stage 0 (judge most n next lines) ≡ text_behind next 0 (judge most n next lines)
 unfolding Follows
 text_behind-moved most n (heading a) (heading b) lines f = refl
 text_behind-moved most n (heading a) (streaming pattern g) lines f =
@@ -101,78 +125,108 @@ text_behind-moved most n (heading a) (streaming pattern g) lines f =
     ∙ ap (λ h. text_from pattern h 0 v.updates) (sym f)
 text_behind-moved most n (streaming pattern g) next lines f = absurd f
 
-module _ (most : ℕ) (gone : List Line) (text : List ℕ) (n t : ℕ) (stage : Stage) (line : Line) (reached : Reached most gone text n t stage) where
+module _ (most : ℕ) (gone : List Line) (text : List ℕ) (n t : ℕ) (stage : Stage) (line : Line)
+    (reached : Reached most gone text n t stage) where
   -- the lines so far, this one, and those behind it
   regrouped : (lines : List Line) → (gone ++ line ∷ []) ++ lines ≡ gone ++ line ∷ lines
   regrouped lines = append_assoc gone (line ∷ []) lines
 
   text_led : (j : Judged) → judged most (suc n) stage line.bytes ≡ j → (lines : List Line) →
-      text_of (verdict most ((gone ++ line ∷ []) ++ lines)) ≡ text ++ text_behind stage t (led_on n stage j (λ next. judge most (suc n) next lines))
+      text_of (verdict most ((gone ++ line ∷ []) ++ lines))
+      ≡ text ++ text_behind stage t (led_on n stage j (λ next. judge most (suc n) next lines))
   text_led j is lines =
       ap (λ all. text_of (verdict most all)) (regrouped lines) ∙ reached.whole_text (line ∷ lines)
       ∙ ap (λ v. text ++ text_behind stage t v) (judge-cons most n stage line j is lines)
 
   end_led : (j : Judged) → judged most (suc n) stage line.bytes ≡ j → (lines : List Line) →
-      end_of (verdict most ((gone ++ line ∷ []) ++ lines)) ≡ end_of (led_on n stage j (λ next. judge most (suc n) next lines))
+      end_of (verdict most ((gone ++ line ∷ []) ++ lines))
+      ≡ end_of (led_on n stage j (λ next. judge most (suc n) next lines))
   end_led j is lines =
-      ap (λ all. end_of (verdict most all)) (regrouped lines) ∙ reached.whole_end (line ∷ lines) ∙ ap end_of (judge-cons most n stage line j is lines)
+      ap (λ all. end_of (verdict most all)) (regrouped lines) ∙ reached.whole_end (line ∷ lines)
+      ∙ ap end_of (judge-cons most n stage line j is lines)
 
   stop_led : (j : Judged) → judged most (suc n) stage line.bytes ≡ j → (lines : List Line) →
-      (verdict most ((gone ++ line ∷ []) ++ lines)).stop ≡ (led_on n stage j (λ next. judge most (suc n) next lines)).stop
+      (verdict most ((gone ++ line ∷ []) ++ lines)).stop
+      ≡ (led_on n stage j (λ next. judge most (suc n) next lines)).stop
   stop_led j is lines =
-      ap (λ all. (verdict most all).stop) (regrouped lines) ∙ reached.whole_stop (line ∷ lines) ∙ ap (λ v. v.stop) (judge-cons most n stage line j is lines)
+      ap (λ all. (verdict most all).stop) (regrouped lines) ∙ reached.whole_stop (line ∷ lines)
+      ∙ ap (λ v. v.stop) (judge-cons most n stage line j is lines)
 
 -- a line that leads on, where no timestamp was taken yet
-pub Reached-moved : (most : ℕ) (gone : List Line) (text : List ℕ) (n : ℕ) (stage next : Stage) (line : Line) →
-    Reached most gone text n 0 stage → judged most (suc n) stage line.bytes ≡ moved next → Reached most (gone ++ line ∷ []) text (suc n) 0 next
+pub Reached-moved : (most : ℕ) (gone : List Line) (text : List ℕ) (n : ℕ) (stage next : Stage)
+    (line : Line) →
+    Reached most gone text n 0 stage → judged most (suc n) stage line.bytes ≡ moved next →
+    Reached most (gone ++ line ∷ []) text (suc n) 0 next
 Reached-moved most gone text n stage next line reached is = record {
   whole_text = λ lines.
       text_led most gone text n 0 stage line reached (moved next) is lines
-      ∙ ap (λ more. text ++ more) (text_behind-moved most (suc n) stage next lines (subst (Follows stage) is (follows most (suc n) stage line.bytes)));
+      ∙ ap (λ more. text ++ more)
+      (text_behind-moved most (suc n) stage next lines
+      (subst (Follows stage) is (follows most (suc n) stage line.bytes)));
   whole_end = end_led most gone text n 0 stage line reached (moved next) is;
   whole_stop = stop_led most gone text n 0 stage line reached (moved next) is;
 }
 
 -- among the updates no line only leads on
-pub streaming-moved : (most n : ℕ) (pattern : Pattern) (g : Graph) (next : Stage) (bytes : List ℕ) → judged most n (streaming pattern g) bytes ≡ moved next → ⊥
+pub streaming-moved : (most n : ℕ) (pattern : Pattern) (g : Graph) (next : Stage) (bytes : List ℕ) →
+    judged most n (streaming pattern g) bytes ≡ moved next → ⊥
 unfolding Follows
-streaming-moved most n pattern g next bytes is = subst (Follows (streaming pattern g)) is (follows most n (streaming pattern g) bytes)
+streaming-moved most n pattern g next bytes is =
+    subst (Follows (streaming pattern g)) is (follows most n (streaming pattern g) bytes)
 
 -- in the header no line is an update
-pub heading-accepted : (most n : ℕ) (next : Awaited) (u : Update) (pattern : Pattern) (now : Graph) (bytes : List ℕ) → judged most n (heading next) bytes ≡ accepted u pattern now → ⊥
+pub heading-accepted : (most n : ℕ) (next : Awaited) (u : Update) (pattern : Pattern) (now : Graph)
+    (bytes : List ℕ) → judged most n (heading next) bytes ≡ accepted u pattern now → ⊥
 unfolding Follows
-heading-accepted most n next u pattern now bytes is = subst (Follows (heading next)) is (follows most n (heading next) bytes)
+heading-accepted most n next u pattern now bytes is =
+    subst (Follows (heading next)) is (follows most n (heading next) bytes)
 
-accepted-pattern : (pattern same : Pattern) (g now : Graph) (u : Update) → Follows (streaming pattern g) (accepted u same now) → same ≡ pattern
+accepted-pattern : (pattern same : Pattern) (g now : Graph) (u : Update) →
+    Follows (streaming pattern g) (accepted u same now) → same ≡ pattern
 unfolding Follows
 accepted-pattern pattern same g now u f = f.0
 
-accepted-graph : (pattern same : Pattern) (g now : Graph) (u : Update) → Follows (streaming pattern g) (accepted u same now) → now ≡ after g u
+accepted-graph : (pattern same : Pattern) (g now : Graph) (u : Update) →
+    Follows (streaming pattern g) (accepted u same now) → now ≡ after g u
 unfolding Follows
 accepted-graph pattern same g now u f = f.1
 
 -- an update that was accepted takes the next timestamp
-pub Reached-accepted : (most : ℕ) (gone : List Line) (text : List ℕ) (n t : ℕ) (pattern same : Pattern) (g now : Graph) (u : Update) (line : Line) →
-    Reached most gone text n t (streaming pattern g) → judged most (suc n) (streaming pattern g) line.bytes ≡ accepted u same now →
-    Reached most (gone ++ line ∷ []) (text ++ step_text pattern g now (suc t)) (suc n) (suc t) (streaming pattern now)
+pub Reached-accepted : (most : ℕ) (gone : List Line) (text : List ℕ) (n t : ℕ)
+    (pattern same : Pattern) (g now : Graph) (u : Update) (line : Line) →
+    Reached most gone text n t (streaming pattern g) →
+    judged most (suc n) (streaming pattern g) line.bytes ≡ accepted u same now →
+    Reached most (gone ++ line ∷ []) (text ++ step_text pattern g now (suc t)) (suc n) (suc t)
+    (streaming pattern now)
 Reached-accepted most gone text n t pattern same g now u line reached is =
     let stage = streaming pattern g in
-    let follow : Follows stage (accepted u same now) = subst (Follows stage) is (follows most (suc n) stage line.bytes) in
+    let follow : Follows stage (accepted u same now) =
+    subst (Follows stage) is (follows most (suc n) stage line.bytes) in
     let pattern_is = accepted-pattern pattern same g now u follow in
     let graph_is = accepted-graph pattern same g now u follow in
     record {
       whole_text = λ lines.
           let v = judge most (suc n) (streaming same now) lines in
           text_led most gone text n t stage line reached (accepted u same now) is lines
-          ∙ ap (λ h. text ++ (step_text pattern g h (suc t) ++ text_from pattern h (suc t) v.updates)) (sym graph_is)
-          ∙ sym (append_assoc text (step_text pattern g now (suc t)) (text_from pattern now (suc t) v.updates))
-          ∙ ap (λ q. (text ++ step_text pattern g now (suc t)) ++ text_from pattern now (suc t) (judge most (suc n) (streaming q now) lines).updates) pattern_is;
-      whole_end = λ lines. end_led most gone text n t stage line reached (accepted u same now) is lines ∙ ap (λ q. end_of (judge most (suc n) (streaming q now) lines)) pattern_is;
-      whole_stop = λ lines. stop_led most gone text n t stage line reached (accepted u same now) is lines ∙ ap (λ q. (judge most (suc n) (streaming q now) lines).stop) pattern_is;
+          ∙ ap
+          (λ h. text ++ (step_text pattern g h (suc t) ++ text_from pattern h (suc t) v.updates))
+          (sym graph_is)
+          ∙ sym (append_assoc text (step_text pattern g now (suc t))
+          (text_from pattern now (suc t) v.updates))
+          ∙ ap (λ q. (text ++ step_text pattern g now (suc t))
+          ++ text_from pattern now (suc t) (judge most (suc n) (streaming q now) lines).updates)
+          pattern_is;
+      whole_end =
+          λ lines. end_led most gone text n t stage line reached (accepted u same now) is lines
+          ∙ ap (λ q. end_of (judge most (suc n) (streaming q now) lines)) pattern_is;
+      whole_stop =
+          λ lines. stop_led most gone text n t stage line reached (accepted u same now) is lines
+          ∙ ap (λ q. (judge most (suc n) (streaming q now) lines).stop) pattern_is;
     }
 
 -- nothing is written for what is not read
-text_behind-ended : (stage : Stage) (t n : ℕ) (stop : Option Status) → text_behind stage t (ended n stage stop) ≡ []
+text_behind-ended : (stage : Stage) (t n : ℕ) (stop : Option Status) →
+    text_behind stage t (ended n stage stop) ≡ []
 text_behind-ended (heading next) t n stop = refl
 text_behind-ended (streaming pattern g) t n stop = refl
 
@@ -184,29 +238,41 @@ ended-stop : (stage : Stage) (n : ℕ) (stop : Option Status) → (ended n stage
 ended-stop (heading next) n stop = refl
 ended-stop (streaming pattern g) n stop = refl
 
-module _ (most : ℕ) (gone : List Line) (text : List ℕ) (n t : ℕ) (stage : Stage) (reached : Reached most gone text n t stage) where
+module _ (most : ℕ) (gone : List Line) (text : List ℕ) (n t : ℕ) (stage : Stage)
+    (reached : Reached most gone text n t stage) where
   -- where a line is refused, the text so far is all
-  pub Reached-refused_text : (line : Line) (lines : List Line) (why : Status) → judged most (suc n) stage line.bytes ≡ refused why → text_of (verdict most (gone ++ line ∷ lines)) ≡ text
+  pub Reached-refused_text : (line : Line) (lines : List Line) (why : Status) →
+      judged most (suc n) stage line.bytes ≡ refused why →
+      text_of (verdict most (gone ++ line ∷ lines)) ≡ text
   Reached-refused_text line lines why is =
-      reached.whole_text (line ∷ lines) ∙ ap (λ v. text ++ text_behind stage t v) (judge-cons most n stage line (refused why) is lines)
+      reached.whole_text (line ∷ lines)
+      ∙ ap (λ v. text ++ text_behind stage t v)
+      (judge-cons most n stage line (refused why) is lines)
       ∙ ap (λ more. text ++ more) (text_behind-ended stage t n (Some why)) ∙ append-nil text
 
-  pub Reached-refused_end : (line : Line) (lines : List Line) (why : Status) → judged most (suc n) stage line.bytes ≡ refused why → end_of (verdict most (gone ++ line ∷ lines)) ≡ why
+  pub Reached-refused_end : (line : Line) (lines : List Line) (why : Status) →
+      judged most (suc n) stage line.bytes ≡ refused why →
+      end_of (verdict most (gone ++ line ∷ lines)) ≡ why
   Reached-refused_end line lines why is =
-      reached.whole_end (line ∷ lines) ∙ ap end_of (judge-cons most n stage line (refused why) is lines) ∙ ended-end stage n why
+      reached.whole_end (line ∷ lines)
+      ∙ ap end_of (judge-cons most n stage line (refused why) is lines) ∙ ended-end stage n why
 
   -- where no line follows, the text so far is all
   pub Reached-end_text : text_of (verdict most gone) ≡ text
   Reached-end_text =
-      ap (λ all. text_of (verdict most all)) (sym (append-nil gone)) ∙ reached.whole_text [] ∙ ap (λ more. text ++ more) (text_behind-ended stage t n None) ∙ append-nil text
+      ap (λ all. text_of (verdict most all)) (sym (append-nil gone)) ∙ reached.whole_text []
+      ∙ ap (λ more. text ++ more) (text_behind-ended stage t n None) ∙ append-nil text
 
   pub Reached-end : end_of (verdict most gone) ≡ end_of (ended n stage None)
   Reached-end = ap (λ all. end_of (verdict most all)) (sym (append-nil gone)) ∙ reached.whole_end []
 
   pub Reached-no_stop : (verdict most gone).stop ≡ None
-  Reached-no_stop = ap (λ all. (verdict most all).stop) (sym (append-nil gone)) ∙ reached.whole_stop [] ∙ ended-stop stage n None
+  Reached-no_stop =
+      ap (λ all. (verdict most all).stop) (sym (append-nil gone)) ∙ reached.whole_stop []
+      ∙ ended-stop stage n None
 
 -- a line that is refused ends the job with a refusal
-pub judged-stop : (most n : ℕ) (stage : Stage) (bytes : List ℕ) (why : Status) → judged most n stage bytes ≡ refused why → IsStop why
+pub judged-stop : (most n : ℕ) (stage : Stage) (bytes : List ℕ) (why : Status) →
+    judged most n stage bytes ≡ refused why → IsStop why
 unfolding Follows
 judged-stop most n stage bytes why is = subst (Follows stage) is (follows most n stage bytes)

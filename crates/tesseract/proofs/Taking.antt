@@ -1,5 +1,6 @@
 -- A line is taken by a job, and leads on.
-use Rattle.std.proofs.Common.{◌≡◌, ℕ, suc, ◌<◌, ◌≤◌, true, false, List, [], ◌++◌, length, cond, None, Some, Result, Ok, Err, refl, ap, ◌∙◌, arith}
+use Rattle.std.proofs.Common.{◌≡◌, ℕ, suc, ◌<◌, ◌≤◌, true, false, List, [], ◌++◌, length, cond}
+use Rattle.std.proofs.Common.{None, Some, Result, Ok, Err, refl, ap, ◌∙◌, arith}
 use Rattle.std.specs.Prelude.{nat_lt}
 use Rattle.std.proofs.lemmas.Bool.Decides.{nat_tests}
 use Rattle.graph_types.specs.Graph.{Graph}
@@ -24,65 +25,93 @@ use Rattle.tesseract.specs.declared.status.InputKind.TheVariants as input
 use Rattle.tesseract.specs.declared.status.LimitKind.TheVariants as limit
 use Rattle.tesseract.specs.Mining.{Mining}
 use Rattle.tesseract.specs.Miner.{IsMade}
-use Rattle.tesseract.specs.Job.{Stage, streaming, refused, judged_step, judged_update, judged_line, judged, long_line}
+use Rattle.tesseract.specs.Job.{Stage, streaming, refused, judged_step, judged_update, judged_line}
+use Rattle.tesseract.specs.Job.{judged, long_line}
 use Rattle.tesseract.specs.Reading.{stage_of, stamp_of, IsTaken, Takes}
-use Rattle.tesseract.specs.Running.{Accepts, Moves}
+use Rattle.tesseract.proofs.Leading.{Accepts, Moves}
 
 -- an update that was read and made
-pub IsTaken-from : (n : ℕ) (m new : Mining) (text : List ℕ) (u : Update) (changes : Changes) → update_of text ≡ Some u → IsMade m u new changes → IsTaken n m text (Streaming new) changes
+pub IsTaken-from : (n : ℕ) (m new : Mining) (text : List ℕ) (u : Update) (changes : Changes) →
+    update_of text ≡ Some u → IsMade m u new changes → IsTaken n m text (Streaming new) changes
 IsTaken-from n m new text u changes said made = record {
   update = u;
   now = new.graph;
-  accepted_is = ap (judged_update n (every_piece m.size) m.graph) said ∙ ap (judged_step n (every_piece m.size) u) made.stepped;
+  accepted_is =
+      ap (judged_update n (every_piece m.size) m.graph) said
+      ∙ ap (judged_step n (every_piece m.size) u) made.stepped;
   stage_is = ap (λ size. streaming (every_piece size) new.graph) made.same_size;
   stamp_is = made.next_stamp;
   rem = made.rem;
   add = made.add;
 }
 
-refused_step : (n : ℕ) (pattern : Pattern) (u : Update) (stepped : Result Graph Refusal) (why : Refusal) → stepped ≡ Err why → judged_step n pattern u stepped ≡ refused (status.BadInput n input.BadLine)
+refused_step : (n : ℕ) (pattern : Pattern) (u : Update) (stepped : Result Graph Refusal)
+    (why : Refusal) → stepped ≡ Err why →
+    judged_step n pattern u stepped ≡ refused (status.BadInput n input.BadLine)
 refused_step n pattern u stepped why is = ap (judged_step n pattern u) is
 
 -- an update that was read, and that the graph refuses
-pub refused-from : (n : ℕ) (m : Mining) (text : List ℕ) (u : Update) (why : StepFault) → update_of text ≡ Some u → (why ≡ fault.NoMemory → ⊥) → IsReason (step m.graph u) why →
-    judged_update n (every_piece m.size) m.graph (update_of text) ≡ refused (status.BadInput n input.BadLine)
-refused-from n m text u fault.Loop said not_memory is = ap (judged_update n (every_piece m.size) m.graph) said ∙ refused_step n _ u _ _ is
-refused-from n m text u (fault.NoVertex v) said not_memory is = ap (judged_update n (every_piece m.size) m.graph) said ∙ refused_step n _ u _ _ is
-refused-from n m text u fault.VertexExists said not_memory is = ap (judged_update n (every_piece m.size) m.graph) said ∙ refused_step n _ u _ _ is
-refused-from n m text u fault.EdgeExists said not_memory is = ap (judged_update n (every_piece m.size) m.graph) said ∙ refused_step n _ u _ _ is
+pub refused-from : (n : ℕ) (m : Mining) (text : List ℕ) (u : Update) (why : StepFault) →
+    update_of text ≡ Some u → (why ≡ fault.NoMemory → ⊥) → IsReason (step m.graph u) why →
+    judged_update n (every_piece m.size) m.graph (update_of text)
+    ≡ refused (status.BadInput n input.BadLine)
+refused-from n m text u fault.Loop said not_memory is =
+    ap (judged_update n (every_piece m.size) m.graph) said ∙ refused_step n _ u _ _ is
+refused-from n m text u (fault.NoVertex v) said not_memory is =
+    ap (judged_update n (every_piece m.size) m.graph) said ∙ refused_step n _ u _ _ is
+refused-from n m text u fault.VertexExists said not_memory is =
+    ap (judged_update n (every_piece m.size) m.graph) said ∙ refused_step n _ u _ _ is
+refused-from n m text u fault.EdgeExists said not_memory is =
+    ap (judged_update n (every_piece m.size) m.graph) said ∙ refused_step n _ u _ _ is
 refused-from n m text u fault.NoMemory said not_memory is = absurd (not_memory refl)
 
 -- a line that is not too long, and not one too many
-pub judged-short : (most n : ℕ) (stage : Stage) (bytes : List ℕ) → n ≤ most → length bytes ≤ most_line_bytes → judged most n stage bytes ≡ judged_line n stage bytes
+pub judged-short : (most n : ℕ) (stage : Stage) (bytes : List ℕ) → n ≤ most →
+    length bytes ≤ most_line_bytes → judged most n stage bytes ≡ judged_line n stage bytes
 judged-short most n stage bytes few short =
     let not_many : nat_lt most n ≡ false = grind (arith, nat_tests) in
     let not_long : nat_lt most_line_bytes (length bytes) ≡ false = grind (arith, nat_tests) in
-    ap (λ b. cond b (refused (status.Limit limit.Lines n)) (cond (nat_lt most_line_bytes (length bytes)) (refused (long_line n stage)) (judged_line n stage bytes))) not_many
+    ap (λ b. cond b (refused (status.Limit limit.Lines n))
+    (cond (nat_lt most_line_bytes (length bytes)) (refused (long_line n stage))
+    (judged_line n stage bytes))) not_many
     ∙ ap (λ b. cond b (refused (long_line n stage)) (judged_line n stage bytes)) not_long
 
 -- a line that is too long
-pub judged-long : (most n : ℕ) (stage : Stage) (bytes : List ℕ) → n ≤ most → most_line_bytes < length bytes → judged most n stage bytes ≡ refused (long_line n stage)
+pub judged-long : (most n : ℕ) (stage : Stage) (bytes : List ℕ) → n ≤ most →
+    most_line_bytes < length bytes → judged most n stage bytes ≡ refused (long_line n stage)
 judged-long most n stage bytes few long =
     let not_many : nat_lt most n ≡ false = grind (arith, nat_tests) in
     let too_long : nat_lt most_line_bytes (length bytes) ≡ true = grind (arith, nat_tests) in
-    ap (λ b. cond b (refused (status.Limit limit.Lines n)) (cond (nat_lt most_line_bytes (length bytes)) (refused (long_line n stage)) (judged_line n stage bytes))) not_many
+    ap (λ b. cond b (refused (status.Limit limit.Lines n))
+    (cond (nat_lt most_line_bytes (length bytes)) (refused (long_line n stage))
+    (judged_line n stage bytes))) not_many
     ∙ ap (λ b. cond b (refused (long_line n stage)) (judged_line n stage bytes)) too_long
 
 -- one line too many
-pub judged-many : (most n : ℕ) (stage : Stage) (bytes : List ℕ) → most < n → judged most n stage bytes ≡ refused (status.Limit limit.Lines n)
+pub judged-many : (most n : ℕ) (stage : Stage) (bytes : List ℕ) → most < n →
+    judged most n stage bytes ≡ refused (status.Limit limit.Lines n)
 judged-many most n stage bytes many =
     let too_many : nat_lt most n ≡ true = grind (arith, nat_tests) in
-    ap (λ b. cond b (refused (status.Limit limit.Lines n)) (cond (nat_lt most_line_bytes (length bytes)) (refused (long_line n stage)) (judged_line n stage bytes))) too_many
+    ap (λ b. cond b (refused (status.Limit limit.Lines n))
+    (cond (nat_lt most_line_bytes (length bytes)) (refused (long_line n stage))
+    (judged_line n stage bytes))) too_many
 
 -- a line that was taken and says no update
-pub Takes-moves : (most n : ℕ) (old new : Job) (line : List ℕ) → judged most n (stage_of old) line ≡ judged_line n (stage_of old) line → Takes n old line (Ok (new, None)) →
+pub Takes-moves : (most n : ℕ) (old new : Job) (line : List ℕ) →
+    judged most n (stage_of old) line ≡ judged_line n (stage_of old) line →
+    Takes n old line (Ok (new, None)) →
     Moves most n (stage_of old) (stamp_of old) line (stage_of new) (stamp_of new) []
-Takes-moves most n (Heading next) new line short taken = record { moved_is = short ∙ taken.0; no_stamp = refl; still_none = taken.1; no_text = refl }
+Takes-moves most n (Heading next) new line short taken =
+    record { moved_is = short ∙ taken.0; no_stamp = refl; still_none = taken.1; no_text = refl }
 Takes-moves most n (Streaming m) new line short taken = absurd taken
 
 -- a line that was taken and says an update
-pub Takes-accepts : (most n : ℕ) (old new : Job) (line : List ℕ) (changes : Changes) → judged most n (stage_of old) line ≡ judged_line n (stage_of old) line → Takes n old line (Ok (new, Some changes)) →
-    Accepts most n (stage_of old) (stamp_of old) line (stage_of new) (stamp_of new) (delta_text (stamp_of new) (members_of_all changes.rem) (members_of_all changes.add) ++ done_text (stamp_of new))
+pub Takes-accepts : (most n : ℕ) (old new : Job) (line : List ℕ) (changes : Changes) →
+    judged most n (stage_of old) line ≡ judged_line n (stage_of old) line →
+    Takes n old line (Ok (new, Some changes)) →
+    Accepts most n (stage_of old) (stamp_of old) line (stage_of new) (stamp_of new)
+    (delta_text (stamp_of new) (members_of_all changes.rem) (members_of_all changes.add)
+    ++ done_text (stamp_of new))
 Takes-accepts most n (Heading next) new line changes short taken = absurd taken
 Takes-accepts most n (Streaming m) new line changes short taken = record {
   pattern = every_piece m.size;
@@ -94,13 +123,18 @@ Takes-accepts most n (Streaming m) new line changes short taken = record {
   accepted_is = short ∙ taken.accepted_is;
   stamp_is = taken.stamp_is;
   text_is =
-      ap (λ t. delta_text t (members_of_all changes.rem) (members_of_all changes.add) ++ done_text t) taken.stamp_is
-      ∙ ap (λ rem. delta_text (suc m.stamp) rem (members_of_all changes.add) ++ done_text (suc m.stamp)) taken.rem
-      ∙ ap (λ add. delta_text (suc m.stamp) (gone (every_piece m.size) m.graph taken.now) add ++ done_text (suc m.stamp)) taken.add;
+      ap (λ t. delta_text t (members_of_all changes.rem) (members_of_all changes.add)
+      ++ done_text t) taken.stamp_is
+      ∙ ap (λ rem. delta_text (suc m.stamp) rem (members_of_all changes.add)
+      ++ done_text (suc m.stamp)) taken.rem
+      ∙ ap (λ add. delta_text (suc m.stamp) (gone (every_piece m.size) m.graph taken.now) add
+      ++ done_text (suc m.stamp)) taken.add;
 }
 
 -- a line that was taken and is refused
-pub Takes-refused : (most n : ℕ) (old : Job) (line : List ℕ) (why : Status) → judged most n (stage_of old) line ≡ judged_line n (stage_of old) line → Takes n old line (Err (stop.Refused why)) →
+pub Takes-refused : (most n : ℕ) (old : Job) (line : List ℕ) (why : Status) →
+    judged most n (stage_of old) line ≡ judged_line n (stage_of old) line →
+    Takes n old line (Err (stop.Refused why)) →
     judged most n (stage_of old) line ≡ refused why
 Takes-refused most n (Heading next) line why short taken = short ∙ taken
 Takes-refused most n (Streaming m) line why short taken = short ∙ taken

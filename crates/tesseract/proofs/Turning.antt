@@ -1,8 +1,11 @@
 -- A line leads a run on, or the run ends.
-use Rattle.std.proofs.Common.{◌≡◌, ◌≢◌, ℕ, suc, ◌+◌, ◌≤◌, inl, inr, true, false, List, [], ◌∷◌, ◌++◌, Option, None, Some, Result, Ok, Err, refl, sym, ap, ◌∙◌, subst, append-nil, arith}
+use Rattle.std.proofs.Common.{◌≡◌, ◌≢◌, ℕ, suc, ◌+◌, ◌≤◌, inl, inr, IsTrue, true, false, List, []}
+use Rattle.std.proofs.Common.{◌∷◌, ◌++◌, Option, None, Some, Result, Ok, Err, refl, sym, ap, ◌∙◌}
+use Rattle.std.proofs.Common.{subst, append-nil, arith}
 use Rattle.job_io.specs.Ends.{BothKnown, AppendsFront, PassesOn, Puts, Gathers}
 use Rattle.job_io.proofs.Gathering.{PassesOn-start, PassesOn-then, Gathers-put}
-use Rattle.job_io.specs.Lines.{Line, Reading, lines_of, GivesLine, GivesEnd, StopsInLine, LongLineFollows}
+use Rattle.job_io.specs.Lines.{Line, Reading, lines_of, GivesLine, GivesEnd, StopsInLine}
+use Rattle.job_io.specs.Lines.{LongLineFollows}
 use Rattle.job_io.specs.Reading.{Nexts}
 use Rattle.job_io.specs.declared.line_reader.LineFault.TheVariants as line
 use Rattle.job_io.proofs.LinesOf.{lf_or_none, lines_of-whole, lines_of-last}
@@ -14,14 +17,29 @@ use Rattle.tesseract.specs.declared.job.Job.{Job}
 use Rattle.tesseract.specs.declared.job.Stop.{Stop}
 use Rattle.tesseract.specs.declared.job.Stop.TheVariants as stop
 use Rattle.tesseract.specs.Reading.{stage_of, stamp_of, changes_text, Takes}
-use Rattle.tesseract.specs.Run.{Advances, StandsBetween}
+use Rattle.tesseract.specs.Run.{WritesFront}
+use Rattle.tesseract.specs.Turning.{Advances}
 use Rattle.tesseract.specs.declared.job.Job.TheVariants.{Heading}
 use Rattle.tesseract.specs.declared.header.Awaited.TheVariants as awaited
-use Rattle.tesseract.specs.Job.{Stage, heading, streaming, refused, judged_line, judged, ended, end_of, long_line}
-use Rattle.tesseract.specs.Running.{Running, Ended, Ends, IsEnd, LeadsOn, Accepts, WritesFront}
+use Rattle.tesseract.specs.Job.{Stage, heading, streaming, refused, judged_line, judged, ended}
+use Rattle.tesseract.specs.Job.{end_of, long_line}
+use Rattle.tesseract.specs.Running.{Running, Ended, Ends, IsEnd}
+use Rattle.tesseract.proofs.Leading.{LeadsOn, Accepts}
 use Rattle.tesseract.proofs.Reaching.{IsStop, judged-stop}
-use Rattle.tesseract.proofs.Going.{BothKnown-same, BothKnown-map, Running-start, Running-led, Running-fails, Running-ended}
-use Rattle.tesseract.proofs.Taking.{judged-short, judged-long, judged-many, Takes-moves, Takes-accepts, Takes-refused}
+use Rattle.tesseract.proofs.Going.{BothKnown-same, BothKnown-map, Running-start, Running-led}
+use Rattle.tesseract.proofs.Going.{Running-fails, Running-ended}
+use Rattle.tesseract.proofs.Taking.{judged-short, judged-long, judged-many, Takes-moves}
+use Rattle.tesseract.proofs.Taking.{Takes-accepts, Takes-refused}
+
+-- A run stands between two lines.
+pub record StandsBetween (most : ℕ) (left0 left written0 written : Option (List ℕ)) (page : List ℕ)
+    (reader : Reading) (job : Job) : Type 0 where
+  pub running :
+      Running most left0 left written0 written page reader (stage_of job) (stamp_of job)
+  pub live : IsTrue reader.live
+  pub most_is : reader.most ≡ most
+  pub few : reader.number ≤ most
+  pub stamped : stamp_of job ≤ reader.number
 
 -- what a refused line ends a job with is an end
 pub IsStop-end : (why : Status) → IsStop why → IsEnd why
@@ -44,34 +62,51 @@ long_line-end n (streaming pattern g) = tt
 
 module _ (stage : Stage) (old new : Reading) (was is : Option (List ℕ)) where
   -- the text ended
-  pub ends_clean : (n : ℕ) → n ≡ old.number → BothKnown was is (GivesEnd old new) → BothKnown was is (λ was is. Ends old.most old new was is stage (end_of (ended n stage None)))
-  ends_clean n same known = BothKnown-map _ _ was is known (λ was is gives. inl (record { gives_end = gives; why_is = ap (λ n. end_of (ended n stage None)) same }))
+  pub ends_clean : (n : ℕ) → n ≡ old.number → BothKnown was is (GivesEnd old new) →
+      BothKnown was is (λ was is. Ends old.most old new was is stage (end_of (ended n stage None)))
+  ends_clean n same known =
+      BothKnown-map _ _ was is known (λ was is gives. inl (record {
+        gives_end = gives;
+        why_is = ap (λ n. end_of (ended n stage None)) same;
+      }))
 
   -- the source failed
-  pub ends_unread : BothKnown was is (StopsInLine old new) → BothKnown was is (λ was is. Ends old.most old new was is stage status.ReadFault)
-  ends_unread known = BothKnown-map _ _ was is known (λ was is stops. inr (inr (record { why_is = refl; stops = stops })))
+  pub ends_unread : BothKnown was is (StopsInLine old new) →
+      BothKnown was is (λ was is. Ends old.most old new was is stage status.ReadFault)
+  ends_unread known =
+      BothKnown-map _ _ was is known
+      (λ was is stops. inr (inr (record { why_is = refl; stops = stops })))
 
   -- the next line is too long
-  pub ends_long : (n : ℕ) → n ≡ old.number + 1 → n ≤ old.most → BothKnown was is (λ was _. LongLineFollows (old.held ++ was)) →
+  pub ends_long : (n : ℕ) → n ≡ old.number + 1 → n ≤ old.most →
+      BothKnown was is (λ was _. LongLineFollows (old.held ++ was)) →
       BothKnown was is (λ was is. Ends old.most old new was is stage (long_line n stage))
   ends_long n next few known = BothKnown-map _ _ was is known (λ was is follows. inr (inl (record {
     line = follows.0;
     others = follows.1;
     follows = follows.2;
     refused_is =
-        judged-long old.most (suc old.number) stage follows.0.bytes (omega (arith, next, few)) follows.3
-        ∙ ap (λ n. refused (long_line n stage)) (let e : suc old.number ≡ n = omega (arith, next) in e);
+        judged-long old.most (suc old.number) stage follows.0.bytes (omega (arith, next, few))
+        follows.3
+        ∙ ap (λ n. refused (long_line n stage))
+        (let e : suc old.number ≡ n = omega (arith, next) in e);
   })))
 
-some_line : (text : List ℕ) → text ≢ [] → (line : Line) × (others : List Line) × (lines_of text ≡ line ∷ others)
+some_line : (text : List ℕ) → text ≢ [] →
+    (line : Line) × (others : List Line) × (lines_of text ≡ line ∷ others)
 some_line [] nonempty = absurd (nonempty refl)
 some_line (b ∷ bs) nonempty = elim (lf_or_none (b ∷ bs)) [
-  | inl first ↦ (record { bytes = first.line; whole = true }, lines_of first.rest, ap lines_of first.split ∙ lines_of-whole first.line first.rest first.no_lf)
+  | inl first ↦ (
+    record { bytes = first.line; whole = true },
+    lines_of first.rest,
+    ap lines_of first.split ∙ lines_of-whole first.line first.rest first.no_lf,
+  )
   | inr none ↦ (record { bytes = b ∷ bs; whole = false }, [], lines_of-last b bs none)
 ]
 
 -- one line too many follows
-pub ends_many : (stage : Stage) (old new : Reading) (was is : Option (List ℕ)) (n : ℕ) → n ≡ old.most + 1 → old.number ≡ old.most → BothKnown was is (λ was _. old.held ++ was ≢ []) →
+pub ends_many : (stage : Stage) (old new : Reading) (was is : Option (List ℕ)) (n : ℕ) →
+    n ≡ old.most + 1 → old.number ≡ old.most → BothKnown was is (λ was _. old.held ++ was ≢ []) →
     BothKnown was is (λ was is. Ends old.most old new was is stage (status.Limit limit.Lines n))
 ends_many stage old new was is n next all known = BothKnown-map _ _ was is known (λ was is nonempty.
     let first = some_line (old.held ++ was) nonempty in
@@ -81,60 +116,87 @@ ends_many stage old new was is n next all known = BothKnown-map _ _ was is known
       follows = first.2;
       refused_is =
           judged-many old.most (suc old.number) stage first.0.bytes (omega (arith, all))
-          ∙ ap (λ n. refused (status.Limit limit.Lines n)) (let e : suc old.number ≡ n = omega (arith, next, all) in e);
+          ∙ ap (λ n. refused (status.Limit limit.Lines n))
+          (let e : suc old.number ≡ n = omega (arith, next, all) in e);
     })))
 
 -- what a reader that gives no line says of the end
-pub Nexts-long : (stage : Stage) (old new : Reading) (was is : Option (List ℕ)) (n : ℕ) → Nexts old new was is (Err (line.TooLong n)) →
-    IsEnd (long_line n stage) × BothKnown was is (λ was is. Ends old.most old new was is stage (long_line n stage))
-Nexts-long stage old new was is n (next, few, known) = (long_line-end n stage, ends_long stage old new was is n next few known)
+pub Nexts-long : (stage : Stage) (old new : Reading) (was is : Option (List ℕ)) (n : ℕ) →
+    Nexts old new was is (Err (line.TooLong n)) →
+    IsEnd (long_line n stage)
+    × BothKnown was is (λ was is. Ends old.most old new was is stage (long_line n stage))
+Nexts-long stage old new was is n (next, few, known) =
+    (long_line-end n stage, ends_long stage old new was is n next few known)
 
-pub Nexts-many : (stage : Stage) (old new : Reading) (was is : Option (List ℕ)) (n : ℕ) → Nexts old new was is (Err (line.TooMany n)) →
-    IsEnd (status.Limit limit.Lines n) × BothKnown was is (λ was is. Ends old.most old new was is stage (status.Limit limit.Lines n))
-Nexts-many stage old new was is n (next, all, known) = (tt, ends_many stage old new was is n next all known)
+pub Nexts-many : (stage : Stage) (old new : Reading) (was is : Option (List ℕ)) (n : ℕ) →
+    Nexts old new was is (Err (line.TooMany n)) →
+    IsEnd (status.Limit limit.Lines n)
+    × BothKnown was is (λ was is.
+    Ends old.most old new was is stage (status.Limit limit.Lines n))
+Nexts-many stage old new was is n (next, all, known) =
+    (tt, ends_many stage old new was is n next all known)
 
 -- a page that is sent passes on all that it held
-pub Puts-gathers : {T E : Type 0} (old new : Option (List ℕ)) (held : List ℕ) (result : Result T E) → Puts old new held result → Gathers old held new [] [] result
-Puts-gathers old new held result puts = Gathers-put held [] (subst (λ text. Puts old new text result) (sym (append-nil held)) puts)
+pub Puts-gathers : {T E : Type 0} (old new : Option (List ℕ)) (held : List ℕ)
+    (result : Result T E) → Puts old new held result → Gathers old held new [] [] result
+Puts-gathers old new held result puts =
+    Gathers-put held [] (subst (λ text. Puts old new text result) (sym (append-nil held)) puts)
 
 -- a front of nothing
 front_same : (known : Option (List ℕ)) (text : List ℕ) → AppendsFront known known text
 front_same None text = record { len = 0; written = tt }
 front_same (Some bytes) text = record { len = 0; written = sym (append-nil bytes) }
 
-module _ (most : ℕ) (left0 left written0 : Option (List ℕ)) (reader : Reading) (stage : Stage) (t : ℕ) where
+module _ (most : ℕ) (left0 left written0 : Option (List ℕ)) (reader : Reading) (stage : Stage)
+    (t : ℕ) where
   -- nothing is said, and some of what the page held is written
-  pub Running-sent : (written written' : Option (List ℕ)) (page page' : List ℕ) → PassesOn written page written' page' [] →
-      Running most left0 left written0 written page reader stage t → Running most left0 left written0 written' page' reader stage t
+  pub Running-sent : (written written' : Option (List ℕ)) (page page' : List ℕ) →
+      PassesOn written page written' page' [] →
+      Running most left0 left written0 written page reader stage t →
+      Running most left0 left written0 written' page' reader stage t
   Running-sent written written' page page' sent running = record {
     text = running.text;
-    passed = subst (PassesOn written0 [] written' page') (append-nil running.text) (PassesOn-then running.passed sent);
+    passed =
+        subst (PassesOn written0 [] written' page') (append-nil running.text)
+        (PassesOn-then running.passed sent);
     known = running.known;
   }
 
   -- the page could not be sent
-  pub Running-unsent : (written written' : Option (List ℕ)) (page : List ℕ) → AppendsFront written written' (page ++ []) →
-      Running most left0 left written0 written page reader stage t → WritesFront most left0 left written0 written'
+  pub Running-unsent : (written written' : Option (List ℕ)) (page : List ℕ) →
+      AppendsFront written written' (page ++ []) →
+      Running most left0 left written0 written page reader stage t →
+      WritesFront most left0 left written0 written'
   Running-unsent written written' page front running =
-      Running-fails most left0 left left written0 written written' page [] reader stage t front (BothKnown-same _ left (λ bytes. inl refl)) running
+      Running-fails most left0 left left written0 written written' page [] reader stage t front
+      (BothKnown-same _ left (λ bytes. inl refl)) running
 
   -- the job ends at the next line
-  pub Running-stops : (left' written : Option (List ℕ)) (page : List ℕ) (new : Reading) (why : Status) → BothKnown left left' (λ was is. Ends most reader new was is stage why) →
-      Running most left0 left written0 written page reader stage t → Ended most left0 left' written0 written page why
+  pub Running-stops : (left' written : Option (List ℕ)) (page : List ℕ) (new : Reading)
+      (why : Status) → BothKnown left left' (λ was is. Ends most reader new was is stage why) →
+      Running most left0 left written0 written page reader stage t →
+      Ended most left0 left' written0 written page why
   Running-stops left' written page new why ends running =
-      Running-ended most left0 left left' written0 written written page page reader new stage t why (PassesOn-start written page) ends running
+      Running-ended most left0 left left' written0 written written page page reader new stage t why
+      (PassesOn-start written page) ends running
 
   -- memory was wanted at the next line
-  pub Running-starves : (left' written : Option (List ℕ)) (page : List ℕ) (new : Reading) → BothKnown left left' (GivesLine reader new) →
-      Running most left0 left written0 written page reader stage t → WritesFront most left0 left' written0 written
+  pub Running-starves : (left' written : Option (List ℕ)) (page : List ℕ) (new : Reading) →
+      BothKnown left left' (GivesLine reader new) →
+      Running most left0 left written0 written page reader stage t →
+      WritesFront most left0 left' written0 written
   Running-starves left' written page new gives running =
-      Running-fails most left0 left left' written0 written written page [] reader stage t (front_same written (page ++ []))
+      Running-fails most left0 left left' written0 written written page [] reader stage t
+      (front_same written (page ++ []))
       (BothKnown-map _ _ left left' gives (λ was is _. inl refl)) running
 
   -- the text of the next line could not be written
-  pub Running-unwritten : (left' written written' : Option (List ℕ)) (page text : List ℕ) (new : Reading) (next : Stage) (u : ℕ) → BothKnown left left' (GivesLine reader new) →
-      Accepts most (suc reader.number) stage t new.line.bytes next u text → AppendsFront written written' (page ++ text) →
-      Running most left0 left written0 written page reader stage t → WritesFront most left0 left' written0 written'
+  pub Running-unwritten : (left' written written' : Option (List ℕ)) (page text : List ℕ)
+      (new : Reading) (next : Stage) (u : ℕ) → BothKnown left left' (GivesLine reader new) →
+      Accepts most (suc reader.number) stage t new.line.bytes next u text →
+      AppendsFront written written' (page ++ text) →
+      Running most left0 left written0 written page reader stage t →
+      WritesFront most left0 left' written0 written'
   Running-unwritten left' written written' page text new next u gives accepts front running =
       Running-fails most left0 left left' written0 written written' page text reader stage t front
       (BothKnown-map _ _ left left' gives (λ was is line. inr (record {
@@ -147,70 +209,112 @@ module _ (most : ℕ) (left0 left written0 : Option (List ℕ)) (reader : Readin
       }))) running
 
 -- the next line is refused
-pub ends_refused : (stage : Stage) (old new : Reading) (was is : Option (List ℕ)) (why : Status) → judged old.most (suc old.number) stage new.line.bytes ≡ refused why → BothKnown was is (GivesLine old new) →
+pub ends_refused : (stage : Stage) (old new : Reading) (was is : Option (List ℕ)) (why : Status) →
+    judged old.most (suc old.number) stage new.line.bytes ≡ refused why →
+    BothKnown was is (GivesLine old new) →
     BothKnown was is (λ was is. Ends old.most old new was is stage why)
-ends_refused stage old new was is why refused_is gives = BothKnown-map _ _ was is gives (λ was is line. inr (inl (record {
-  line = new.line;
-  others = lines_of (new.held ++ is);
-  follows = line.lines;
-  refused_is = refused_is;
-})))
+ends_refused stage old new was is why refused_is gives =
+    BothKnown-map _ _ was is gives (λ was is line. inr (inl (record {
+      line = new.line;
+      others = lines_of (new.held ++ is);
+      follows = line.lines;
+      refused_is = refused_is;
+    })))
 
 -- A line stands at the reader, and is taken by the job.
-module _ (old new : Reading) (was is : Option (List ℕ)) (job : Job) (n : ℕ) (bytes : List ℕ) (stands : Advances (stage_of job) old new was is None) (n_is : n ≡ new.number) (bytes_is : bytes ≡ new.line.bytes) where
-  at_line : (result : Result (Job × Option Changes) Stop) → Takes n job bytes result → Takes (suc old.number) job new.line.bytes result
+module _ (old new : Reading) (was is : Option (List ℕ)) (job : Job) (n : ℕ) (bytes : List ℕ)
+    (stands : Advances (stage_of job) old new was is None) (n_is : n ≡ new.number)
+    (bytes_is : bytes ≡ new.line.bytes) where
+  at_line : (result : Result (Job × Option Changes) Stop) → Takes n job bytes result →
+      Takes (suc old.number) job new.line.bytes result
   at_line result taken =
       let next : n ≡ suc old.number = omega (arith, n_is, stands.2.counted) in
-      subst (λ n. Takes n job new.line.bytes result) next (subst (λ bytes. Takes n job bytes result) bytes_is taken)
+      subst (λ n. Takes n job new.line.bytes result) next
+      (subst (λ bytes. Takes n job bytes result) bytes_is taken)
 
-  short : judged old.most (suc old.number) (stage_of job) new.line.bytes ≡ judged_line (suc old.number) (stage_of job) new.line.bytes
-  short = judged-short old.most (suc old.number) (stage_of job) new.line.bytes (omega (arith, stands.2.counted, stands.2.few, stands.2.same_most)) stands.1.short
+  short : judged old.most (suc old.number) (stage_of job) new.line.bytes
+      ≡ judged_line (suc old.number) (stage_of job) new.line.bytes
+  short =
+      judged-short old.most (suc old.number) (stage_of job) new.line.bytes
+      (omega (arith, stands.2.counted, stands.2.few, stands.2.same_most)) stands.1.short
 
   leads : (next : Job) (changes : Option Changes) → Takes n job bytes (Ok (next, changes)) →
-      LeadsOn old.most (suc old.number) (stage_of job) (stamp_of job) new.line.bytes (stage_of next) (stamp_of next) (changes_text (stamp_of next) changes)
-  leads next None taken = inl (Takes-moves old.most (suc old.number) job next new.line.bytes short (at_line (Ok (next, None)) taken))
-  leads next (Some changes) taken = inr (Takes-accepts old.most (suc old.number) job next new.line.bytes changes short (at_line (Ok (next, Some changes)) taken))
+      LeadsOn old.most (suc old.number) (stage_of job) (stamp_of job) new.line.bytes (stage_of next)
+      (stamp_of next) (changes_text (stamp_of next) changes)
+  leads next None taken =
+      inl (Takes-moves old.most (suc old.number) job next new.line.bytes short
+      (at_line (Ok (next, None)) taken))
+  leads next (Some changes) taken =
+      inr (Takes-accepts old.most (suc old.number) job next new.line.bytes changes short
+      (at_line (Ok (next, Some changes)) taken))
 
-  module _ (left0 written0 written : Option (List ℕ)) (page : List ℕ) (running : Running old.most left0 was written0 written page old (stage_of job) (stamp_of job)) where
-    -- the line leads on, and its text is passed on
-    pub turns_on : (next : Job) (changes : Option Changes) (t : ℕ) (written' : Option (List ℕ)) (page' : List ℕ) → t ≡ stamp_of next → Takes n job bytes (Ok (next, changes)) →
-        PassesOn written page written' page' (changes_text t changes) → Running old.most left0 is written0 written' page' new (stage_of next) (stamp_of next)
-    turns_on next changes t written' page' t_is taken passed =
-        Running-led old.most left0 was is written0 written written' page page' (changes_text (stamp_of next) changes) old new (stage_of job) (stage_of next) (stamp_of job) (stamp_of next)
-        stands.1.no_lf (omega (arith, stands.2.counted)) (leads next changes taken) (subst (λ t. PassesOn written page written' page' (changes_text t changes)) t_is passed) stands.0 running
+  module _ (left0 written0 written : Option (List ℕ)) (page : List ℕ)
+      (running : Running old.most left0 was written0 written page old (stage_of job) (stamp_of job))
+    where
+      -- the line leads on, and its text is passed on
+      pub turns_on : (next : Job) (changes : Option Changes) (t : ℕ) (written' : Option (List ℕ))
+          (page' : List ℕ) → t ≡ stamp_of next → Takes n job bytes (Ok (next, changes)) →
+          PassesOn written page written' page' (changes_text t changes) →
+          Running old.most left0 is written0 written' page' new (stage_of next) (stamp_of next)
+      turns_on next changes t written' page' t_is taken passed =
+          Running-led old.most left0 was is written0 written written' page page'
+          (changes_text (stamp_of next) changes) old new (stage_of job) (stage_of next)
+          (stamp_of job) (stamp_of next)
+          stands.1.no_lf (omega (arith, stands.2.counted)) (leads next changes taken)
+          (subst (λ t. PassesOn written page written' page' (changes_text t changes)) t_is passed)
+          stands.0 running
 
-    unwritten : (next : Job) (text : List ℕ) (written' : Option (List ℕ)) → LeadsOn old.most (suc old.number) (stage_of job) (stamp_of job) new.line.bytes (stage_of next) (stamp_of next) text →
-        AppendsFront written written' (page ++ text) → WritesFront old.most left0 is written0 written'
-    unwritten next text written' (inl moves) front =
-        Running-fails old.most left0 was is written0 written written' page text old (stage_of job) (stamp_of job) front
-        (BothKnown-map _ _ was is stands.0 (λ was is _. inl moves.no_text)) running
-    unwritten next text written' (inr accepts) front =
-        Running-unwritten old.most left0 was written0 old (stage_of job) (stamp_of job) is written written' page text new (stage_of next) (stamp_of next) stands.0 accepts front running
+      unwritten : (next : Job) (text : List ℕ) (written' : Option (List ℕ)) →
+          LeadsOn old.most (suc old.number) (stage_of job) (stamp_of job) new.line.bytes
+          (stage_of next) (stamp_of next) text →
+          AppendsFront written written' (page ++ text) →
+          WritesFront old.most left0 is written0 written'
+      unwritten next text written' (inl moves) front =
+          Running-fails old.most left0 was is written0 written written' page text old (stage_of job)
+          (stamp_of job) front
+          (BothKnown-map _ _ was is stands.0 (λ was is _. inl moves.no_text)) running
+      unwritten next text written' (inr accepts) front =
+          Running-unwritten old.most left0 was written0 old (stage_of job) (stamp_of job) is written
+          written' page text new (stage_of next) (stamp_of next) stands.0 accepts front running
 
-    -- the line leads on, and its text can't be passed on
-    pub turn_fails : (next : Job) (changes : Option Changes) (t : ℕ) (written' : Option (List ℕ)) → t ≡ stamp_of next → Takes n job bytes (Ok (next, changes)) →
-        AppendsFront written written' (page ++ changes_text t changes) → WritesFront old.most left0 is written0 written'
-    turn_fails next changes t written' t_is taken front =
-        unwritten next (changes_text (stamp_of next) changes) written' (leads next changes taken) (subst (λ t. AppendsFront written written' (page ++ changes_text t changes)) t_is front)
+      -- the line leads on, and its text can't be passed on
+      pub turn_fails : (next : Job) (changes : Option Changes) (t : ℕ) (written' : Option (List ℕ)) →
+          t ≡ stamp_of next → Takes n job bytes (Ok (next, changes)) →
+          AppendsFront written written' (page ++ changes_text t changes) →
+          WritesFront old.most left0 is written0 written'
+      turn_fails next changes t written' t_is taken front =
+          unwritten next (changes_text (stamp_of next) changes) written' (leads next changes taken)
+          (subst (λ t. AppendsFront written written' (page ++ changes_text t changes)) t_is front)
 
-    -- the line is refused
-    pub turn_ends : (why : Status) → Takes n job bytes (Err (stop.Refused why)) → IsEnd why × Ended old.most left0 is written0 written page why
-    turn_ends why taken =
-        let refused_is = Takes-refused old.most (suc old.number) job new.line.bytes why short (at_line (Err (stop.Refused why)) taken) in (
-          IsStop-end why (judged-stop old.most (suc old.number) (stage_of job) new.line.bytes why refused_is),
-          Running-stops old.most left0 was written0 old (stage_of job) (stamp_of job) is written page new why (ends_refused (stage_of job) old new was is why refused_is stands.0) running,
-        )
+      -- the line is refused
+      pub turn_ends : (why : Status) → Takes n job bytes (Err (stop.Refused why)) →
+          IsEnd why × Ended old.most left0 is written0 written page why
+      turn_ends why taken =
+          let refused_is =
+          Takes-refused old.most (suc old.number) job new.line.bytes why short
+          (at_line (Err (stop.Refused why)) taken) in (
+            IsStop-end why (judged-stop old.most (suc old.number) (stage_of job) new.line.bytes why
+                refused_is),
+            Running-stops old.most left0 was written0 old (stage_of job) (stamp_of job) is written
+                page new why (ends_refused (stage_of job) old new was is why refused_is stands.0)
+                running,
+          )
 
-    -- memory is wanted at the line
-    pub turn_starves : WritesFront old.most left0 is written0 written
-    turn_starves = Running-starves old.most left0 was written0 old (stage_of job) (stamp_of job) is written page new stands.0 running
+      -- memory is wanted at the line
+      pub turn_starves : WritesFront old.most left0 is written0 written
+      turn_starves =
+          Running-starves old.most left0 was written0 old (stage_of job) (stamp_of job) is written
+          page new stands.0 running
 
 -- a run stands before its first line
-pub StandsBetween-start : (most : ℕ) (left written : Option (List ℕ)) (page : List ℕ) (reader : Reading) (job : Job) → page ≡ [] → job ≡ Heading awaited.Mode →
-    reader.line ≡ record { bytes = []; whole = true } → reader.number ≡ 0 → reader.most ≡ most → reader.live ≡ true → reader.held ≡ [] →
+pub StandsBetween-start : (most : ℕ) (left written : Option (List ℕ)) (page : List ℕ)
+    (reader : Reading) (job : Job) → page ≡ [] → job ≡ Heading awaited.Mode →
+    reader.line ≡ record { bytes = []; whole = true } → reader.number ≡ 0 → reader.most ≡ most →
+    reader.live ≡ true → reader.held ≡ [] →
     StandsBetween most left left written written page reader job
 StandsBetween-start most left written page reader job nothing begun line number most_is live held =
-    let running = Running-start most left written reader (ap (λ line. line.whole) line) number held in
+    let running =
+    Running-start most left written reader (ap (λ line. line.whole) line) number held in
     subst (λ page. StandsBetween most left left written written page reader job) (sym nothing)
     (subst (λ job. StandsBetween most left left written written [] reader job) (sym begun) (record {
       running = running;
@@ -221,10 +325,16 @@ StandsBetween-start most left written page reader job nothing begun line number 
     }))
 
 -- a run ends behind a line, if it does so from wherever it stands
-pub StandsBetween-ends : (most : ℕ) (left0 left left' written0 written written' : Option (List ℕ)) (page page' : List ℕ) (reader : Reading) (job : Job) (why : Status) →
+pub StandsBetween-ends : (most : ℕ) (left0 left left' written0 written written' : Option (List ℕ))
+    (page page' : List ℕ) (reader : Reading) (job : Job) (why : Status) →
     StandsBetween most left0 left written0 written page reader job →
-    ((left0 written0 : Option (List ℕ)) → Running reader.most left0 left written0 written page reader (stage_of job) (stamp_of job) → IsEnd why × Ended reader.most left0 left' written0 written' page' why) →
+    ((left0 written0 : Option (List ℕ)) →
+    Running reader.most left0 left written0 written page reader (stage_of job) (stamp_of job) →
+    IsEnd why × Ended reader.most left0 left' written0 written' page' why) →
     IsEnd why × Ended most left0 left' written0 written' page' why
-StandsBetween-ends most left0 left left' written0 written written' page page' reader job why stands runs =
+StandsBetween-ends most left0 left left' written0 written written' page page' reader job why stands
+    runs =
     subst (λ m. IsEnd why × Ended m left0 left' written0 written' page' why) stands.most_is
-    (runs left0 written0 (subst (λ m. Running m left0 left written0 written page reader (stage_of job) (stamp_of job)) (sym stands.most_is) stands.running))
+    (runs left0 written0 (subst
+    (λ m. Running m left0 left written0 written page reader (stage_of job) (stamp_of job))
+    (sym stands.most_is) stands.running))

@@ -1,5 +1,6 @@
 -- The five lines of a header.
-use Rattle.std.specs.Prelude.{ℕ, Bool, false, ◌&&◌, List, [], ◌∷◌, codes, Option, None, Some, if◌then◌else◌}
+use Rattle.std.specs.Prelude.{ℕ, Bool, false, ◌&&◌, List, [], ◌∷◌, codes}
+use Rattle.std.specs.Prelude.{Option, None, Some, if◌then◌else◌}
 use Rattle.std.specs.Option.{option_map}
 use Rattle.std.specs.Str.{bytes_eq}
 use Rattle.tesseract.specs.Size.{size_digit}
@@ -25,8 +26,13 @@ size_said words = None
 
 -- what the words of the awaited line lead to, where it has its form
 abbrev pub header_step : Awaited → List (List ℕ) → Option HeaderStep
-header_step awaited.Mode words = if is_pair (codes "mode") (codes "vertex") words then Some (More awaited.Size) else None
-header_step awaited.Size words = option_map (λ size. More (awaited.Filter size)) (size_said words)
-header_step (awaited.Filter size) words = if is_pair (codes "filter") (codes "true") words then Some (More (awaited.Match size)) else None
-header_step (awaited.Match size) words = if is_pair (codes "match") (codes "true") words then Some (More (awaited.Begin size)) else None
-header_step (awaited.Begin size) words = if is_word (codes "begin") words then Some (Ready size) else None
+header_step awaited.Mode words =
+    if is_pair (codes "mode") (codes "vertex") words then Some (More awaited.Size) else None
+header_step awaited.Size words =
+    option_map (λ size. More (awaited.Filter size)) (size_said words)
+header_step (awaited.Filter size) words =
+    if is_pair (codes "filter") (codes "true") words then Some (More (awaited.Match size)) else None
+header_step (awaited.Match size) words =
+    if is_pair (codes "match") (codes "true") words then Some (More (awaited.Begin size)) else None
+header_step (awaited.Begin size) words =
+    if is_word (codes "begin") words then Some (Ready size) else None

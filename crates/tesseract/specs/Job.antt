@@ -1,5 +1,6 @@
 -- What the lines of a job say, and what is written for them.
-use Rattle.std.specs.Prelude.{ℕ, suc, List, [], ◌∷◌, length, nat_lt, Option, None, Some, Result, Ok, Err, if◌then◌else◌}
+use Rattle.std.specs.Prelude.{ℕ, suc, List, [], ◌∷◌, length, nat_lt}
+use Rattle.std.specs.Prelude.{Option, None, Some, Result, Ok, Err, if◌then◌else◌}
 use Rattle.std.specs.Option.{unwrap_or}
 use Rattle.graph_types.specs.Graph.{Graph, empty_graph}
 use Rattle.graph_types.specs.declared.update.Update.{Update}
@@ -20,7 +21,7 @@ use Rattle.tesseract.specs.declared.status.InputKind.TheVariants as input
 use Rattle.tesseract.specs.declared.status.LimitKind.TheVariants as limit
 use Rattle.tesseract.specs.Header.{header_step}
 
--- where the reading of a job stands: in its header, or among its updates with the graph that they left
+-- where the reading of a job stands: in its header, or among its updates, with the graph they left
 pub data Stage : Type 0 where
   heading : Awaited → Stage
   streaming : Pattern → Graph → Stage
@@ -49,10 +50,12 @@ judged_update n pattern g (Some u) = judged_step n pattern u (step g u)
 
 -- line n, which has at most the bytes that a line may have
 abbrev pub judged_line : ℕ → Stage → List ℕ → Judged
-judged_line n (heading next) bytes = judged_header n (header_step next (words_of (without_cr bytes)))
-judged_line n (streaming pattern g) bytes = judged_update n pattern g (update_of (without_cr bytes))
+judged_line n (heading next) bytes =
+    judged_header n (header_step next (words_of (without_cr bytes)))
+judged_line n (streaming pattern g) bytes =
+    judged_update n pattern g (update_of (without_cr bytes))
 
--- the refusal of a line n that has more
+-- the refusal of line n where it has more
 abbrev pub long_line : ℕ → Stage → Status
 long_line n (heading next) = status.BadProgram n program.BadLine
 long_line n (streaming pattern g) = status.BadInput n input.BadLine
@@ -64,22 +67,30 @@ judged most n stage bytes =
     else if nat_lt most_line_bytes (length bytes) then refused (long_line n stage)
     else judged_line n stage bytes
 
--- What reading a job gives: the program, where its header is whole; the updates that were accepted; and how
--- it ended, where `stop` is the refusal of a line, and `close` what holds where no line is refused.
+-- What reading a job gives: the program, where its header is whole; the updates that were accepted;
+-- the refusal that stopped it, if a line was refused; and how it ends if none was.
 pub record Verdict : Type 0 where
   pub pattern : Option Pattern
   pub updates : List Update
   pub stop : Option Status
   pub close : Status
 
--- nothing more is read
+-- nothing more is read behind n lines
 abbrev pub ended : ℕ → Stage → Option Status → Verdict
-ended n (heading next) stop = record { pattern = None; updates = []; stop = stop; close = status.BadProgram n program.BadLine }
-ended n (streaming pattern g) stop = record { pattern = Some pattern; updates = []; stop = stop; close = status.Ok }
+ended n (heading next) stop =
+    record {
+      pattern = None;
+      updates = [];
+      stop = stop;
+      close = status.BadProgram n program.BadLine;
+    }
+ended n (streaming pattern g) stop =
+    record { pattern = Some pattern; updates = []; stop = stop; close = status.Ok }
 
 -- u was accepted before all that
 abbrev pub with_update : Update → Verdict → Verdict
-with_update u v = record { pattern = v.pattern; updates = u ∷ v.updates; stop = v.stop; close = v.close }
+with_update u v =
+    record { pattern = v.pattern; updates = u ∷ v.updates; stop = v.stop; close = v.close }
 
 -- what comes of a line behind n others, and of those behind it
 abbrev pub led_on : ℕ → Stage → Judged → (Stage → Verdict) → Verdict
@@ -87,10 +98,11 @@ led_on n stage (refused why) rest = ended n stage (Some why)
 led_on n stage (moved next) rest = rest next
 led_on n stage (accepted u pattern g) rest = with_update u (rest (streaming pattern g))
 
--- The lines behind n others, of which at most `most` are allowed. The first that is refused ends the job.
+-- The lines behind n others, where at most `most` are allowed. The first that is refused ends all.
 abbrev pub judge : ℕ → ℕ → Stage → List Line → Verdict
 judge most n stage [] = ended n stage None
-judge most n stage (line ∷ lines) = led_on n stage (judged most (suc n) stage line.bytes) (λ next. judge most (suc n) next lines)
+judge most n stage (line ∷ lines) =
+    led_on n stage (judged most (suc n) stage line.bytes) (λ next. judge most (suc n) next lines)
 
 -- the verdict on a whole job
 abbrev pub verdict : ℕ → List Line → Verdict

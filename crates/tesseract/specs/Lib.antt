@@ -6,5 +6,6 @@ pub mod Miner
 pub mod Job
 pub mod Reading
 pub mod Progress
-pub mod Running
 pub mod Run
+pub mod Running
+pub mod Turning

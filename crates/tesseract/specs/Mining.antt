@@ -13,7 +13,10 @@ pub record Mining : Type 0 where
 
 -- it is stored as the tuple of its fields
 abbrev pub mining_code : Coded Mining
-mining_code = code_by (ℕ × (Graph × ℕ)) (coded× coded_ℕ (coded× graph_code coded_ℕ)) (λ m. (m.size, (m.graph, m.stamp))) (λ p. record { size = p.0; graph = p.1.0; stamp = p.1.1 }) (λ _. refl)
+mining_code =
+    code_by (ℕ × (Graph × ℕ)) (coded× coded_ℕ (coded× graph_code coded_ℕ))
+    (λ m. (m.size, (m.graph, m.stamp)))
+    (λ p. record { size = p.0; graph = p.1.0; stamp = p.1.1 }) (λ _. refl)
 
 -- these pieces are the embeddings of the graph
 pub record IsMining (size : ℕ) (graph : Graph) (standing : List PieceValue) : Type 0 where

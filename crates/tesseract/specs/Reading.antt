@@ -17,9 +17,10 @@ use Rattle.tesseract.specs.declared.job.Stop.{Stop}
 use Rattle.tesseract.specs.declared.job.Stop.TheVariants as stop
 use Rattle.tesseract.specs.Header.{header_step}
 use Rattle.tesseract.specs.Mining.{Mining}
-use Rattle.tesseract.specs.Job.{Stage, heading, streaming, judged_header, judged_update, refused, moved, accepted}
+use Rattle.tesseract.specs.Job.{Stage, heading, streaming, judged_header, judged_update}
+use Rattle.tesseract.specs.Job.{refused, moved, accepted}
 
--- where its reading stands
+-- where the reading of a job stands
 abbrev pub stage_of : Job → Stage
 stage_of (Heading next) = heading next
 stage_of (Streaming m) = streaming (every_piece m.size) m.graph
@@ -30,10 +31,13 @@ stamp_of (Heading next) = 0
 stamp_of (Streaming m) = m.stamp
 
 -- Line n says an update that is accepted, and these are its changes.
-pub record IsTaken (n : ℕ) (m : Mining) (text : List ℕ) (job : Job) (changes : Changes) : Type 0 where
+pub record IsTaken (n : ℕ) (m : Mining) (text : List ℕ) (job : Job) (changes : Changes) :
+    Type 0 where
   pub update : Update
   pub now : Graph
-  pub accepted_is : judged_update n (every_piece m.size) m.graph (update_of text) ≡ accepted update (every_piece m.size) now
+  pub accepted_is :
+      judged_update n (every_piece m.size) m.graph (update_of text)
+      ≡ accepted update (every_piece m.size) now
   pub stage_is : stage_of job ≡ streaming (every_piece m.size) now
   pub stamp_is : stamp_of job ≡ suc m.stamp
   pub rem : members_of_all changes.rem ≡ gone (every_piece m.size) m.graph now
@@ -44,14 +48,17 @@ abbrev pub TakesUpdate : ℕ → Mining → List ℕ → Result (Job × Option C
 TakesUpdate n m text (Ok (job, None)) = ⊥
 TakesUpdate n m text (Ok (job, Some changes)) = IsTaken n m text job changes
 TakesUpdate n m text (Err stop.NoMemory) = Unit {0}
-TakesUpdate n m text (Err (stop.Refused why)) = judged_update n (every_piece m.size) m.graph (update_of text) ≡ refused why
+TakesUpdate n m text (Err (stop.Refused why)) =
+    judged_update n (every_piece m.size) m.graph (update_of text) ≡ refused why
 
 -- Line n of a header leads on, or is refused.
 abbrev pub TakesHeader : ℕ → Awaited → List ℕ → Result (Job × Option Changes) Stop → Type 0
-TakesHeader n next text (Ok (job, None)) = (judged_header n (header_step next (words_of text)) ≡ moved (stage_of job)) × (stamp_of job ≡ 0)
+TakesHeader n next text (Ok (job, None)) =
+    (judged_header n (header_step next (words_of text)) ≡ moved (stage_of job)) × (stamp_of job ≡ 0)
 TakesHeader n next text (Ok (job, Some changes)) = ⊥
 TakesHeader n next text (Err stop.NoMemory) = Unit {0}
-TakesHeader n next text (Err (stop.Refused why)) = judged_header n (header_step next (words_of text)) ≡ refused why
+TakesHeader n next text (Err (stop.Refused why)) =
+    judged_header n (header_step next (words_of text)) ≡ refused why
 
 -- Line n, with its CR, is taken by a job.
 abbrev pub Takes : ℕ → Job → List ℕ → Result (Job × Option Changes) Stop → Type 0
@@ -61,4 +68,5 @@ Takes n (Streaming m) line result = TakesUpdate n m (without_cr line) result
 -- the text of a timestamp with these changes; nothing where there is none
 abbrev pub changes_text : ℕ → Option Changes → List ℕ
 changes_text t None = []
-changes_text t (Some changes) = delta_text t (members_of_all changes.rem) (members_of_all changes.add) ++ done_text t
+changes_text t (Some changes) =
+    delta_text t (members_of_all changes.rem) (members_of_all changes.add) ++ done_text t

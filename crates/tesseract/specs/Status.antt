@@ -20,6 +20,7 @@ number_of (status.Limit kind at) = 5
 number_of status.ReadFault = 6
 number_of status.WriteFault = 7
 
+-- the name of a kind
 abbrev pub program_kind : ProgramKind → List ℕ
 program_kind program.BadLine = codes "BadLine"
 
@@ -29,13 +30,16 @@ input_kind input.BadLine = codes "BadLine"
 abbrev pub limit_kind : LimitKind → List ℕ
 limit_kind limit.Lines = codes "Lines"
 
--- the line on standard error; of a run that ended well there is none
+-- the line on standard error; there is none where a run ended well
 abbrev pub line_of : Status → List ℕ
 line_of status.Ok = []
 line_of status.NoMemory = codes "no memory\n"
 line_of status.Usage = codes "usage: tesseract COMMAND [--NAME VALUE]\n"
-line_of (status.BadProgram line kind) = codes "program: line " ++ decimal line ++ codes ": " ++ program_kind kind ++ codes "\n"
-line_of (status.BadInput line kind) = codes "input: line " ++ decimal line ++ codes ": " ++ input_kind kind ++ codes "\n"
-line_of (status.Limit kind at) = codes "limit: " ++ limit_kind kind ++ codes " " ++ decimal at ++ codes "\n"
+line_of (status.BadProgram line kind) =
+    codes "program: line " ++ decimal line ++ codes ": " ++ program_kind kind ++ codes "\n"
+line_of (status.BadInput line kind) =
+    codes "input: line " ++ decimal line ++ codes ": " ++ input_kind kind ++ codes "\n"
+line_of (status.Limit kind at) =
+    codes "limit: " ++ limit_kind kind ++ codes " " ++ decimal at ++ codes "\n"
 line_of status.ReadFault = codes "read fault\n"
 line_of status.WriteFault = codes "write fault\n"

@@ -1,6 +1,7 @@
 ghost use Rattle.std.specs.Prelude.{◌≡◌};
 ghost use Rattle.job_io.specs.Fields.{words_of};
-ghost use Rattle.tesseract.specs.Header.{header_step, size_said, is_word as is_word_of, is_pair as is_pair_of};
+ghost use Rattle.tesseract.specs.Header.{header_step, size_said};
+ghost use Rattle.tesseract.specs.Header.{is_word as is_word_of, is_pair as is_pair_of};
 
 use crate::size::Size;
 use job_io::{word, words};

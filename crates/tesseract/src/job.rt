@@ -56,7 +56,7 @@ impl Job {
         }
     }
 
-    /// The refusal of line `number`.
+    /// The refusal of this line, in the header or in the stream.
     pub fn bad_line(&self, line: u64) -> Status
         ensures { result ≡ long_line line (stage_of self.now) }
     {
@@ -72,8 +72,8 @@ impl Job {
         }
     }
 
-    /// Takes line `number`, without its LF: what the job is then, and the changes of its timestamp where
-    /// the line is an update.
+    /// Takes line `number`, without its LF: what the job is then, and the changes of its timestamp
+    /// where the line is an update.
     pub fn take(
         self,
         alloc: Global,

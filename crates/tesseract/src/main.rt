@@ -1,5 +1,5 @@
-//! Mines patterns in a graph that changes: reads a program and a stream of updates from standard input, and
-//! writes what each update takes away and brings to standard output.
+//! Mines patterns in a graph that changes: reads a program and a stream of updates from standard
+//! input, and writes what each update takes away and brings to standard output.
 #![tactic(auto)]
 
 mod header;
@@ -9,6 +9,8 @@ mod miner;
 mod run;
 mod size;
 mod status;
+#[cfg(test)]
+mod tests;
 
 use graph_types::FreeGate;
 use job_io::{StdSink, StdSource};

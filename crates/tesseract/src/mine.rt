@@ -1,8 +1,9 @@
 ghost use Rattle.std.specs.Prelude.{◌≡◌, ◌≢◌, ◌≤◌, ◌^◌, ℕ, [], List, Option, Some, IsTrue, Ok, Err};
 ghost use Rattle.job_io.specs.Ends.{Gathers, HasCause, Rose};
 ghost use Rattle.tesseract.specs.Reading.{changes_text, stage_of, stamp_of};
-ghost use Rattle.tesseract.specs.Running.{Mines, Running};
-ghost use Rattle.tesseract.specs.Run.{Advances, GoesOn, Turns, Loops};
+ghost use Rattle.tesseract.specs.Run.{Mines};
+ghost use Rattle.tesseract.specs.Running.{Running};
+ghost use Rattle.tesseract.specs.Turning.{Advances, GoesOn, Turns, Loops};
 
 use crate::job::{Job, Stop};
 use crate::miner::Changes;
@@ -48,13 +49,15 @@ impl From<WriteFault> for Halt {
     }
 }
 
-/// Mines a job of at most `most` lines: reads it line by line, and writes what each update takes away and
-/// brings. Output is held back in a page, and sent before the source is asked for more.
+/// Mines a job of at most `most` lines: reads it line by line, and writes what each update takes
+/// away and brings. Output is held back in a page, and sent before the source is asked for more.
 pub fn mine<S: Source, O: Sink>(alloc: Global, most: u64, input: &mut S, out: &mut O) -> Status
     requires { most ≤ 10 ^ 19 }
-    ensures mined { Mines most (S.left input.old) (S.left input.new) (O.written out.old) (O.written out.new) result }
+    ensures mined { Mines most (S.left input.old) (S.left input.new)
+        (O.written out.old) (O.written out.new) result }
     ensures not_usage { result ≢ Status.Usage }
-    ensures read_cause { result ≡ Status.ReadFault → Rose (S.faults input.old) (S.faults input.new) }
+    ensures read_cause { result ≡ Status.ReadFault →
+        Rose (S.faults input.old) (S.faults input.new) }
     ensures write_cause { result ≡ Status.WriteFault → Rose (O.faults out.old) (O.faults out.new) }
 {
     let mut page = Page::new();
@@ -78,11 +81,14 @@ fn mine_lines<S: Source, O: Sink>(
 ) -> Result<Status, Halt>
     requires few { most ≤ 10 ^ 19 }
     requires fresh { page.old ≡ [] }
-    ensures mined { Loops most (S.left input.old) (S.left input.new) (O.written out.old) (O.written out.new) page.new result }
+    ensures mined { Loops most (S.left input.old) (S.left input.new)
+        (O.written out.old) (O.written out.new) page.new result }
     ensures reads { S.faults input.old ≤ S.faults input.new }
     ensures writes { O.faults out.old ≤ O.faults out.new }
-    ensures read_cause { result ≡ Ok Status.ReadFault → Rose (S.faults input.old) (S.faults input.new) }
-    ensures write_cause { result ≡ Err Halt.WriteFault → Rose (O.faults out.old) (O.faults out.new) }
+    ensures read_cause { result ≡ Ok Status.ReadFault →
+        Rose (S.faults input.old) (S.faults input.new) }
+    ensures write_cause { result ≡ Err Halt.WriteFault →
+        Rose (O.faults out.old) (O.faults out.new) }
 {
     let mut reader = LineReader::new(alloc, most)?;
     let mut job = Job::new();
@@ -106,13 +112,17 @@ fn take_line<S: Source, O: Sink>(
     requires live { IsTrue reader.old.live }
     requires stamped { stamp_of job ≤ reader.old.number }
     ensures runs { (left0 written0 : Option (List ℕ)) →
-        Running reader.old.most left0 (S.left input.old) written0 (O.written out.old) page.old reader.old (stage_of job) (stamp_of job) →
-        Turns reader.old.most left0 (S.left input.new) written0 (O.written out.new) page.new reader.new result }
+        Running reader.old.most left0 (S.left input.old) written0 (O.written out.old)
+        page.old reader.old (stage_of job) (stamp_of job) →
+        Turns reader.old.most left0 (S.left input.new) written0 (O.written out.new)
+        page.new reader.new result }
     ensures goes { GoesOn reader.old reader.new result }
     ensures reads { S.faults input.old ≤ S.faults input.new }
     ensures writes { O.faults out.old ≤ O.faults out.new }
-    ensures read_cause { result ≡ Ok (Turn.End Status.ReadFault) → Rose (S.faults input.old) (S.faults input.new) }
-    ensures write_cause { result ≡ Err Halt.WriteFault → Rose (O.faults out.old) (O.faults out.new) }
+    ensures read_cause { result ≡ Ok (Turn.End Status.ReadFault) →
+        Rose (S.faults input.old) (S.faults input.new) }
+    ensures write_cause { result ≡ Err Halt.WriteFault →
+        Rose (O.faults out.old) (O.faults out.new) }
 {
     send_before_wait(reader, page, out)?;
     if let Some(status) = advance(reader, &job, input) {
@@ -146,9 +156,11 @@ fn send_before_wait<O: Sink>(
 /// Moves to the next line, or tells why the job ends.
 fn advance<S: Source>(reader: &mut LineReader, job: &Job, input: &mut S) -> Option<Status>
     requires { IsTrue reader.old.live }
-    ensures advances { Advances (stage_of job.now) reader.old reader.new (S.left input.old) (S.left input.new) result }
+    ensures advances { Advances (stage_of job.now) reader.old reader.new
+        (S.left input.old) (S.left input.new) result }
     ensures reads { S.faults input.old ≤ S.faults input.new }
-    ensures read_cause { result ≡ Some Status.ReadFault → Rose (S.faults input.old) (S.faults input.new) }
+    ensures read_cause { result ≡ Some Status.ReadFault →
+        Rose (S.faults input.old) (S.faults input.new) }
 {
     match reader.next(input) {
         Ok(true) => None,

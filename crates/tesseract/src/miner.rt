@@ -9,8 +9,8 @@ use std::alloc::Global;
 use std::marker::Model;
 use update_rules::{StepFault, step};
 
-/// A graph that changes, and the connected pieces of up to `size` vertices that it has now. Contracts see
-/// the size, the graph and the last timestamp.
+/// A graph that changes, and the connected pieces of up to `size` vertices that it has now.
+/// Contracts see the size, the graph and the last timestamp.
 #[derive(Drop)]
 pub struct Miner {
     size: usize,

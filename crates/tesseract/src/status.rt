@@ -27,18 +27,21 @@ pub enum Status {
 /// What is wrong with a header.
 #[derive(Clone, Copy, Debug, PartialEq, Eq)]
 pub enum ProgramKind {
+    /// A line has another form than the next one of a header, or too many bytes, or none came.
     BadLine,
 }
 
 /// What is wrong with a line of the stream.
 #[derive(Clone, Copy, Debug, PartialEq, Eq)]
 pub enum InputKind {
+    /// It is no update, or has too many bytes, or the graph refuses the update.
     BadLine,
 }
 
 /// What is limited.
 #[derive(Clone, Copy, Debug, PartialEq, Eq)]
 pub enum LimitKind {
+    /// The lines of a job.
     Lines,
 }
 

@@ -1,0 +1,49 @@
+-- What a line leads to.
+use Rattle.std.proofs.Common.{◌≡◌, ℕ, suc, ◌⊎◌, List, [], ◌∷◌}
+use Rattle.graph_types.specs.Graph.{Graph}
+use Rattle.graph_types.specs.declared.update.Update.{Update}
+use Rattle.job_io.specs.Lines.{Line, lines_of}
+use Rattle.mining_model.specs.Embeddings.{Pattern}
+use Rattle.mining_model.specs.Text.{step_text}
+use Rattle.tesseract.specs.Job.{Stage, streaming, moved, accepted, judged}
+
+-- Line n of the stream is an update that is accepted; `text` is its timestamp's.
+pub record Accepts (most n : ℕ) (stage : Stage) (t : ℕ) (bytes : List ℕ)
+    (next : Stage) (u : ℕ) (text : List ℕ) : Type 0 where
+  pub pattern : Pattern
+  pub before : Graph
+  pub update : Update
+  pub now : Graph
+  pub stage_is : stage ≡ streaming pattern before
+  pub next_is : next ≡ streaming pattern now
+  pub accepted_is : judged most n stage bytes ≡ accepted update pattern now
+  pub stamp_is : u ≡ suc t
+  pub text_is : text ≡ step_text pattern before now (suc t)
+
+-- Line n leads on, and no timestamp is taken yet.
+pub record Moves (most n : ℕ) (stage : Stage) (t : ℕ) (bytes : List ℕ)
+    (next : Stage) (u : ℕ) (text : List ℕ) : Type 0 where
+  pub moved_is : judged most n stage bytes ≡ moved next
+  pub no_stamp : t ≡ 0
+  pub still_none : u ≡ 0
+  pub no_text : text ≡ []
+
+-- Line n leads from a stage, before which t timestamps were taken, to the next, before which u
+-- were; `text` belongs to it.
+abbrev pub LeadsOn : ℕ → ℕ → Stage → ℕ → List ℕ → Stage → ℕ → List ℕ → Type 0
+LeadsOn most n stage t bytes next u text =
+    Moves most n stage t bytes next u text ⊎ Accepts most n stage t bytes next u text
+
+-- The next line is an update that is accepted, and `text` belongs to it.
+pub record IsTextOfNext (most : ℕ) (to_come : List ℕ) (n : ℕ) (stage : Stage) (t : ℕ)
+    (text : List ℕ) : Type 0 where
+  pub line : Line
+  pub others : List Line
+  pub follows : lines_of to_come ≡ line ∷ others
+  pub stage_after : Stage
+  pub stamp_after : ℕ
+  pub accepts : Accepts most (suc n) stage t line.bytes stage_after stamp_after text
+
+-- `text` is empty, or belongs to the next line.
+abbrev pub Belongs : ℕ → List ℕ → ℕ → Stage → ℕ → List ℕ → Type 0
+Belongs most to_come n stage t text = (text ≡ []) ⊎ IsTextOfNext most to_come n stage t text
