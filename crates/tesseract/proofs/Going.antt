@@ -1,9 +1,11 @@
 -- A run goes from line to line, and ends.
+use Rattle.std.proofs.Common.{length}
 use Rattle.std.proofs.Common.{◌≡◌, ℕ, suc, ◌⊎◌, inl, inr, Bool, true, false, List, [], ◌∷◌, ◌++◌}
 use Rattle.std.proofs.Common.{cond, Option, None, Some, refl, sym, ap, ◌∙◌, subst, append_assoc}
 use Rattle.std.proofs.Common.{append-nil}
 use Rattle.std.specs.Prelude.{IsTrue}
 use Rattle.std.specs.Io.KnownBytes.{Appends}
+use Rattle.std.proofs.Math.Seq.{take-append_seam}
 use Rattle.job_io.specs.Ends.{BothKnown, AppendsFront, PassesOn}
 use Rattle.job_io.proofs.Gathering.{Appends-then, PassesOn-start, PassesOn-then, AppendsFront-then}
 use Rattle.job_io.proofs.Gathering.{AppendsFront-more}
@@ -266,7 +268,10 @@ module _ (most : ℕ) (bytes was is text : List ℕ) (old new : Reading) (stage 
       unless_unread why _ _
       (judged-stop most (suc old.number) stage ends.line.bytes why ends.refused_is)
       (job_refused why ends)
-  job_at why (inr (inr ends)) =
+  job_at why (inr (inr (inr starved))) =
+      subst (λ end. IfUnread end (IsFrontOfJob most bytes is text) (IsJob most bytes text end))
+      (sym starved) tt
+  job_at why (inr (inr (inl ends))) =
       subst (λ end. IfUnread end (IsFrontOfJob most bytes is text) (IsJob most bytes text end))
       (sym ends.why_is) (job_unread ends.stops at.whole)
 
@@ -337,22 +342,28 @@ all_written most left0 left' written0 written written' page why sent ended =
 
 mines_with : (most : ℕ) (left0 left written0 written : Option (List ℕ)) (text : List ℕ)
     (why : Status) → IsEnd why → Appends written0 written text →
+    BothKnown left0 left (λ bytes is. IsFrontOfText most bytes text) →
     BothKnown left0 left (λ bytes is.
     IfUnread why (IsFrontOfJob most bytes is text) (IsJob most bytes text why)) →
     Mines most left0 left written0 written why
-mines_with most left0 left written0 written text status.Ok end out job =
+mines_with most left0 left written0 written text status.Ok end out front job =
     BothKnown-map _ _ left0 left job (λ bytes is so. (text, so, out))
-mines_with most left0 left written0 written text status.NoMemory end out job = absurd end
-mines_with most left0 left written0 written text status.Usage end out job = absurd end
-mines_with most left0 left written0 written text (status.BadProgram line kind) end out job =
+mines_with most left0 left written0 written text status.NoMemory end out front job =
+    BothKnown-map _ _ left0 left front (λ bytes is rest.
+    subst (AppendsFront written0 written) (sym rest.1) (record {
+      len = length text;
+      written = subst (Appends written0 written) (sym (take-append_seam text rest.0)) out;
+    }))
+mines_with most left0 left written0 written text status.Usage end out front job = absurd end
+mines_with most left0 left written0 written text (status.BadProgram line kind) end out front job =
     BothKnown-map _ _ left0 left job (λ bytes is so. (text, so, out))
-mines_with most left0 left written0 written text (status.BadInput line kind) end out job =
+mines_with most left0 left written0 written text (status.BadInput line kind) end out front job =
     BothKnown-map _ _ left0 left job (λ bytes is so. (text, so, out))
-mines_with most left0 left written0 written text (status.Limit kind at) end out job =
+mines_with most left0 left written0 written text (status.Limit kind at) end out front job =
     BothKnown-map _ _ left0 left job (λ bytes is so. (text, so, out))
-mines_with most left0 left written0 written text status.ReadFault end out job =
+mines_with most left0 left written0 written text status.ReadFault end out front job =
     BothKnown-map _ _ left0 left job (λ bytes is so. (text, so, out))
-mines_with most left0 left written0 written text status.WriteFault end out job = absurd end
+mines_with most left0 left written0 written text status.WriteFault end out front job = absurd end
 
 -- the page is sent at the end
 pub Ended-sent : (most : ℕ) (left0 left' written0 written written' : Option (List ℕ))
@@ -361,7 +372,7 @@ pub Ended-sent : (most : ℕ) (left0 left' written0 written written' : Option (L
 Ended-sent most left0 left' written0 written written' page why end sent ended =
     let text = ended.text in
     mines_with most left0 left' written0 written' text why end
-    (all_written most left0 left' written0 written written' page why sent ended) ended.job
+    (all_written most left0 left' written0 written written' page why sent ended) ended.front ended.job
 
 -- the page could not be sent at the end
 pub Ended-fails : (most : ℕ) (left0 left' written0 written written' : Option (List ℕ))
@@ -376,3 +387,15 @@ Ended-fails most left0 left' written0 written written' page why sent ended =
     BothKnown-map _ _ left0 left' ended.front
     (λ bytes is rest. subst (AppendsFront written0 written') (sym rest.1)
     (AppendsFront-more rest.0 so))
+
+-- a run that wants memory before its first line
+pub Ended-unbegun : (most : ℕ) (left written : Option (List ℕ)) (page : List ℕ) → page ≡ [] →
+    Ended most left left written written page status.NoMemory
+Ended-unbegun most left written page nothing =
+    subst (λ page. Ended most left left written written page status.NoMemory) (sym nothing)
+    (record {
+      text = [];
+      passed = PassesOn-start written [];
+      front = BothKnown-same _ left (λ bytes. (text_of (verdict most (lines_of bytes)), refl));
+      job = BothKnown-same _ left (λ bytes. tt);
+    })

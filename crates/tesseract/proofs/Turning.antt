@@ -75,7 +75,7 @@ module _ (stage : Stage) (old new : Reading) (was is : Option (List ℕ)) where
       BothKnown was is (λ was is. Ends old.most old new was is stage status.ReadFault)
   ends_unread known =
       BothKnown-map _ _ was is known
-      (λ was is stops. inr (inr (record { why_is = refl; stops = stops })))
+      (λ was is stops. inr (inr (inl (record { why_is = refl; stops = stops }))))
 
   -- the next line is too long
   pub ends_long : (n : ℕ) → n ≡ old.number + 1 → n ≤ old.most →
@@ -142,11 +142,6 @@ pub Puts-gathers : {T E : Type 0} (old new : Option (List ℕ)) (held : List ℕ
 Puts-gathers old new held result puts =
     Gathers-put held [] (subst (λ text. Puts old new text result) (sym (append-nil held)) puts)
 
--- a front of nothing
-front_same : (known : Option (List ℕ)) (text : List ℕ) → AppendsFront known known text
-front_same None text = record { len = 0; written = tt }
-front_same (Some bytes) text = record { len = 0; written = sym (append-nil bytes) }
-
 module _ (most : ℕ) (left0 left written0 : Option (List ℕ)) (reader : Reading) (stage : Stage)
     (t : ℕ) where
   -- nothing is said, and some of what the page held is written
@@ -179,16 +174,6 @@ module _ (most : ℕ) (left0 left written0 : Option (List ℕ)) (reader : Readin
   Running-stops left' written page new why ends running =
       Running-ended most left0 left left' written0 written written page page reader new stage t why
       (PassesOn-start written page) ends running
-
-  -- memory was wanted at the next line
-  pub Running-starves : (left' written : Option (List ℕ)) (page : List ℕ) (new : Reading) →
-      BothKnown left left' (GivesLine reader new) →
-      Running most left0 left written0 written page reader stage t →
-      WritesFront most left0 left' written0 written
-  Running-starves left' written page new gives running =
-      Running-fails most left0 left left' written0 written written page [] reader stage t
-      (front_same written (page ++ []))
-      (BothKnown-map _ _ left left' gives (λ was is _. inl refl)) running
 
   -- the text of the next line could not be written
   pub Running-unwritten : (left' written written' : Option (List ℕ)) (page text : List ℕ)
@@ -301,10 +286,14 @@ module _ (old new : Reading) (was is : Option (List ℕ)) (job : Job) (n : ℕ) 
           )
 
       -- memory is wanted at the line
-      pub turn_starves : WritesFront old.most left0 is written0 written
-      turn_starves =
-          Running-starves old.most left0 was written0 old (stage_of job) (stamp_of job) is written
-          page new stands.0 running
+      pub turn_starves : IsEnd status.NoMemory
+          × Ended old.most left0 is written0 written page status.NoMemory
+      turn_starves = (
+        tt,
+        Running-stops old.most left0 was written0 old (stage_of job) (stamp_of job) is written page
+            new status.NoMemory
+            (BothKnown-map _ _ was is stands.0 (λ was is _. inr (inr (inr refl)))) running,
+      )
 
 -- a run stands before its first line
 pub StandsBetween-start : (most : ℕ) (left written : Option (List ℕ)) (page : List ℕ)

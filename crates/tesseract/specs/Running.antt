@@ -60,18 +60,20 @@ pub record EndsUnread (old new : Reading) (was is : List ℕ) (why : Status) : T
 abbrev pub Ends : ℕ → Reading → Reading → List ℕ → List ℕ → Stage → Status → Type 0
 Ends most old new was is stage why =
     EndsClean old new was is stage why
-    ⊎ (EndsRefused most (old.held ++ was) old.number stage why ⊎ EndsUnread old new was is why)
+    ⊎ (EndsRefused most (old.held ++ was) old.number stage why
+    ⊎ (EndsUnread old new was is why ⊎ (why ≡ status.NoMemory)))
 
 -- what a run ends with once its text is out
 abbrev pub IsEnd : Status → Type 0
-IsEnd status.NoMemory = ⊥
 IsEnd status.Usage = ⊥
 IsEnd status.WriteFault = ⊥
 IsEnd why = Unit {0}
 
--- a claim about what was read where the source failed, and another where it didn't
+-- a claim about the text where the source failed, none where memory was wanted, and another where the
+-- job came to its end
 abbrev pub IfUnread : Status → Type 0 → Type 0 → Type 0
 IfUnread status.ReadFault unread read = unread
+IfUnread status.NoMemory unread read = Unit {0}
 IfUnread why unread read = read
 
 -- `text` is a front of the input's text.
@@ -79,7 +81,7 @@ abbrev pub IsFrontOfText : ℕ → List ℕ → List ℕ → Type 0
 IsFrontOfText most bytes text =
     (more : List ℕ) × (text_of (verdict most (lines_of bytes)) ≡ text ++ more)
 
--- What a run has when its job ends: its text, passed on but for what the page holds.
+-- What a run has when it ends: its text, passed on but for what the page holds.
 pub record Ended (most : ℕ) (left0 left written0 written : Option (List ℕ)) (page : List ℕ)
     (why : Status) : Type 0 where
   pub text : List ℕ

@@ -1,4 +1,4 @@
-ghost use Rattle.std.specs.Prelude.{◌≡◌, ◌≢◌, ◌≤◌, ◌^◌, ℕ, [], List, Option, Some, IsTrue, Ok, Err};
+ghost use Rattle.std.specs.Prelude.{◌≡◌, ◌≢◌, ◌≤◌, ◌^◌, ℕ, [], List, Option, Some, IsTrue, Ok, OnErr};
 ghost use Rattle.job_io.specs.Ends.{Gathers, HasCause, Rose};
 ghost use Rattle.tesseract.specs.Reading.{changes_text, stage_of, stamp_of};
 ghost use Rattle.tesseract.specs.Run.{Mines};
@@ -8,45 +8,16 @@ ghost use Rattle.tesseract.specs.Turning.{Advances, GoesOn, Turns, Loops};
 use crate::job::{Job, Stop};
 use crate::miner::Changes;
 use crate::status::{LimitKind, Status};
-use graph_types::{NoMemory, Stamp};
+use graph_types::Stamp;
 use job_io::{LineFault, LineReader, Page, Sink, Source, WriteFault};
 use record_text::{write_delta, write_done};
 use std::alloc::Global;
-
-/// Why a run ends before its job does.
-#[derive(Clone, Copy, Debug, PartialEq, Eq)]
-pub enum Halt {
-    NoMemory,
-    WriteFault,
-}
 
 /// What a line leads to.
 #[derive(Drop)]
 pub enum Turn {
     More(Job),
     End(Status),
-}
-
-impl From<NoMemory> for Halt {
-    ghost use Rattle.std.specs.Prelude.{◌≡◌};
-    ghost use Rattle.tesseract.specs.declared.mine.Halt.TheVariants as halt;
-
-    ghost from_gives = { λ _ e. e ≡ halt.NoMemory };
-
-    fn from(_error: NoMemory) -> Halt {
-        Halt::NoMemory
-    }
-}
-
-impl From<WriteFault> for Halt {
-    ghost use Rattle.std.specs.Prelude.{◌≡◌};
-    ghost use Rattle.tesseract.specs.declared.mine.Halt.TheVariants as halt;
-
-    ghost from_gives = { λ _ e. e ≡ halt.WriteFault };
-
-    fn from(_fault: WriteFault) -> Halt {
-        Halt::WriteFault
-    }
 }
 
 /// Mines a job of at most `most` lines: reads it line by line, and writes what each update takes
@@ -66,8 +37,7 @@ pub fn mine<S: Source, O: Sink>(alloc: Global, most: u64, input: &mut S, out: &m
             Ok(()) => status,
             Err(WriteFault) => Status::WriteFault,
         },
-        Err(Halt::NoMemory) => Status::NoMemory,
-        Err(Halt::WriteFault) => Status::WriteFault,
+        Err(WriteFault) => Status::WriteFault,
     }
 }
 
@@ -78,7 +48,7 @@ fn mine_lines<S: Source, O: Sink>(
     page: &mut Page,
     input: &mut S,
     out: &mut O,
-) -> Result<Status, Halt>
+) -> Result<Status, WriteFault>
     requires few { most ≤ 10 ^ 19 }
     requires fresh { page.old ≡ [] }
     ensures mined { Loops most (S.left input.old) (S.left input.new)
@@ -87,10 +57,11 @@ fn mine_lines<S: Source, O: Sink>(
     ensures writes { O.faults out.old ≤ O.faults out.new }
     ensures read_cause { result ≡ Ok Status.ReadFault →
         Rose (S.faults input.old) (S.faults input.new) }
-    ensures write_cause { result ≡ Err Halt.WriteFault →
-        Rose (O.faults out.old) (O.faults out.new) }
+    ensures write_cause { OnErr result (Rose (O.faults out.old) (O.faults out.new)) }
 {
-    let mut reader = LineReader::new(alloc, most)?;
+    let Ok(mut reader) = LineReader::new(alloc, most) else {
+        return Ok(Status::NoMemory);
+    };
     let mut job = Job::new();
     'lines: loop {
         match take_line(alloc, &mut reader, job, page, input, out)? {
@@ -108,7 +79,7 @@ fn take_line<S: Source, O: Sink>(
     page: &mut Page,
     input: &mut S,
     out: &mut O,
-) -> Result<Turn, Halt>
+) -> Result<Turn, WriteFault>
     requires live { IsTrue reader.old.live }
     requires stamped { stamp_of job ≤ reader.old.number }
     ensures runs { (left0 written0 : Option (List ℕ)) →
@@ -121,8 +92,7 @@ fn take_line<S: Source, O: Sink>(
     ensures writes { O.faults out.old ≤ O.faults out.new }
     ensures read_cause { result ≡ Ok (Turn.End Status.ReadFault) →
         Rose (S.faults input.old) (S.faults input.new) }
-    ensures write_cause { result ≡ Err Halt.WriteFault →
-        Rose (O.faults out.old) (O.faults out.new) }
+    ensures write_cause { OnErr result (Rose (O.faults out.old) (O.faults out.new)) }
 {
     send_before_wait(reader, page, out)?;
     if let Some(status) = advance(reader, &job, input) {
@@ -134,7 +104,7 @@ fn take_line<S: Source, O: Sink>(
             Ok(Turn::More(job))
         }
         Err(Stop::Refused(status)) => Ok(Turn::End(status)),
-        Err(Stop::NoMemory) => Err(Halt::NoMemory),
+        Err(Stop::NoMemory) => Ok(Turn::End(Status::NoMemory)),
     }
 }
 

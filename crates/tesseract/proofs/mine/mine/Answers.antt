@@ -6,7 +6,7 @@ returns-in-Ok-send-clause-mined g c =
     Ended-sent c.args.most _ _ _ _ _ c.mine_lines.new.page c.in-Ok.status c.in-Ok.ensures.mined.0
     c.in-Ok-send.ensures.sent.all c.in-Ok.ensures.mined.1
 
-pub returns-in-Err-clause-mined : goal.returns-in-Err-clause-mined
-returns-in-Err-clause-mined g c =
+pub returns-in-Err-send-clause-mined : goal.returns-in-Err-send-clause-mined
+returns-in-Err-send-clause-mined g c =
     Ended-fails c.args.most _ _ _ _ _ c.mine_lines.new.page c.in-Ok.status
-    c.in-Err.ensures.sent.front c.in-Ok.ensures.mined.1
+    c.in-Err-send.ensures.sent.front c.in-Ok.ensures.mined.1
