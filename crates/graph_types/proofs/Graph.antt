@@ -1,15 +1,18 @@
 -- The order of edges, what a new entry does to a graph, and that both ends of each edge stay in it.
-use Rattle.std.proofs.Common.{◌≡◌, ℕ, true, false, IsTrue, refl, sym, ap, subst, ◌∙◌, cond, Some, List}
-use Rattle.std.specs.BTreeMap.{insert_entry}
+use Rattle.std.proofs.Common.{◌≡◌, ◌≢◌, ◌&&◌, ℕ, Bool, true, false, not, eqb, IsTrue, refl, sym, ap, subst, ◌∙◌, cond, Option, None, Some, List, filter, ◌⊎◌, ⊎_elim, min, max, arith}
+use Rattle.std.specs.BTreeMap.{insert_entry, is_at}
+use Rattle.std.specs.Map.{lookup}
 use Rattle.std.specs.Option.{is_some}
 use Rattle.std.specs.Ordering.{nat_cmp, eq_by_cmp, is_eq, ordering_then}
 use Rattle.std.specs.Cmp.{IsTotalOrder, nat_cmp_total, tied_itself}
 use Rattle.std.specs.declared.cmp.Ordering.{Ordering}
 use Rattle.std.specs.declared.cmp.Ordering.TheVariants.{Less, Equal, Greater}
 use Rattle.std.specs.FinMap as map
-use Rattle.graph_types.specs.Graph.{Graph, has_vertex, EdgesHaveEnds, HasEnds, empty_graph, with_vertex, with_edge, graph_of, pair_cmp}
+use Rattle.std.proofs.lemmas.Bool.{false≢true, not-true, or_parts}
+use Rattle.std.proofs.lemmas.Bool.Decides.{nat_tests}
+use Rattle.graph_types.specs.Graph.{Graph, has_vertex, has_edge, edge_between, is_joined, EdgesHaveEnds, HasEnds, empty_graph, with_vertex, with_edge, without_vertex, without_edge, ends_at, graph_of, pair_cmp}
 use Rattle.graph_types.specs.Orders.{pair_cmp_total}
-use Rattle.graph_types.proofs.Views.{insert-seen}
+use Rattle.graph_types.proofs.Views.{insert-seen, remove-seen, retain-seen}
 
 pub pair_cmp-IsAntisymmetric : map.IsAntisymmetric pair_cmp
 pair_cmp-IsAntisymmetric e f tied =
@@ -31,6 +34,17 @@ has_vertex-with_vertex g v label =
 
 pub has_vertex-kept : (g : Graph) (v label w : ℕ) → IsTrue (has_vertex g w) → IsTrue (has_vertex (with_vertex g v label) w)
 has_vertex-kept g v label w = contains_key-insert nat_cmp_total g.labels v label w
+
+-- the edge between two vertices of the graph has both its ends
+pub HasEnds-between : (g : Graph) (x y : ℕ) → IsTrue (has_vertex g x) → IsTrue (has_vertex g y) → HasEnds g (edge_between x y)
+HasEnds-between g x y has_x has_y =
+    let There : ℕ → Type 0 = λ v. IsTrue (has_vertex g v) in
+    let low : (min x y ≡ x) ⊎ (min x y ≡ y) = grind arith in
+    let high : (max x y ≡ x) ⊎ (max x y ≡ y) = grind arith in
+    record {
+      low = ⊎_elim (λ e. subst There (sym e) has_x) (λ e. subst There (sym e) has_y) low;
+      high = ⊎_elim (λ e. subst There (sym e) has_x) (λ e. subst There (sym e) has_y) high;
+    }
 
 pub EdgesHaveEnds-empty_graph : EdgesHaveEnds empty_graph
 EdgesHaveEnds-empty_graph e has =
@@ -54,9 +68,54 @@ EdgesHaveEnds-with_edge g e label own ends f has =
       | Greater ↦ λ _ h. HasEnds-with_edge g e label f (ends f h)
     ] refl (subst (λ found. IsTrue (is_some found)) (map.get-insert pair_cmp_total g.edges e label f) has)
 
+some_of_others : {X : Type 0} (b : Bool) (found : Option X) → IsTrue (is_some (cond b None found)) → (b ≡ false) × IsTrue (is_some found)
+some_of_others true found h = absurd (false≢true h)
+some_of_others false found h = (refl, h)
+
+some_of_kept : {X : Type 0} (b : Bool) (found : Option X) → IsTrue (is_some (cond b found None)) → IsTrue b × IsTrue (is_some found)
+some_of_kept true found h = (refl, h)
+some_of_kept false found h = absurd (false≢true h)
+
+pub EdgesHaveEnds-without_edge : (g : Graph) (e : ℕ × ℕ) → EdgesHaveEnds g → EdgesHaveEnds (without_edge g e)
+EdgesHaveEnds-without_edge g e ends f has =
+    let had = some_of_others (eq_by_cmp pair_cmp f e) (map.get g.edges f) (ap is_some (sym (map.get-remove pair_cmp_total g.edges e f)) ∙ has) in
+    record { low = (ends f had.1).low; high = (ends f had.1).high }
+
+-- two different vertices are joined where the graph has their edge
+pub joined-at : (g : Graph) (v w : ℕ) (e : ℕ × ℕ) → v ≢ w → e ≡ edge_between v w → has_edge g e ≡ is_joined g v w
+joined-at g v w e apart is =
+    let differ : eqb v w ≡ false = grind (arith, nat_tests) in
+    ap (has_edge g) is ∙ ap (λ b. not b && has_edge g (edge_between v w)) (sym differ)
+
+-- a vertex other than the one taken out stays
+has_vertex-without_vertex : (g : Graph) (v w : ℕ) → eqb v w ≡ false → IsTrue (has_vertex g w) → IsTrue (has_vertex (without_vertex g v) w)
+has_vertex-without_vertex g v w apart has =
+    let other : eq_by_cmp nat_cmp w v ≡ false = grind (arith, nat_tests) in
+    ap is_some (map.get-remove nat_cmp_total g.labels v w) ∙ ap (λ b. is_some (cond b None (map.get g.labels w))) other ∙ has
+
+pub EdgesHaveEnds-without_vertex : (g : Graph) (v : ℕ) → EdgesHaveEnds g → EdgesHaveEnds (without_vertex g v)
+EdgesHaveEnds-without_vertex g v ends e has =
+    let stays : ℕ × ℕ → Bool = λ f. not (ends_at v f) in
+    let found = map.get-retain_keys g.edges stays e (λ f tied. ap stays (sym (pair_cmp-IsAntisymmetric e f tied))) in
+    let had = some_of_kept (stays e) (map.get g.edges e) (ap is_some (sym found) ∙ has) in
+    let apart = or_parts (eqb v e.0) (eqb v e.1) (not-true _ had.0) in
+    record {
+      low = has_vertex-without_vertex g v e.0 apart.0 (ends e had.1).low;
+      high = has_vertex-without_vertex g v e.1 apart.1 (ends e had.1).high;
+    }
+
 module _ (labels : List (ℕ × ℕ)) (edges : List ((ℕ × ℕ) × ℕ)) where
   pub graph_of-insert_label : (v label : ℕ) → graph_of (insert_entry nat_cmp labels v label) edges ≡ with_vertex (graph_of labels edges) v label
   graph_of-insert_label v label = ap (λ m. record { labels = m; edges = map.from_entries edges }) (insert-seen nat_cmp_total map.nat_cmp-IsAntisymmetric labels v label)
 
   pub graph_of-insert_edge : (e : ℕ × ℕ) (label : ℕ) → graph_of labels (insert_entry pair_cmp edges e label) ≡ with_edge (graph_of labels edges) e label
   graph_of-insert_edge e label = ap (λ m. record { labels = map.from_entries labels; edges = m }) (insert-seen pair_cmp_total pair_cmp-IsAntisymmetric edges e label)
+
+  pub graph_of-remove_edge : (left : List ((ℕ × ℕ) × ℕ)) (e : ℕ × ℕ) → ((f : ℕ × ℕ) → lookup (is_at (pair_cmp f)) left ≡ cond (is_at (pair_cmp e) f) None (lookup (is_at (pair_cmp f)) edges)) → graph_of labels left ≡ without_edge (graph_of labels edges) e
+  graph_of-remove_edge left e is = ap (λ m. record { labels = map.from_entries labels; edges = m }) (remove-seen pair_cmp_total pair_cmp-IsAntisymmetric edges left e is)
+
+  pub graph_of-remove_vertex : (left : List (ℕ × ℕ)) (kept : List ((ℕ × ℕ) × ℕ)) (v : ℕ) → ((w : ℕ) → lookup (is_at (nat_cmp w)) left ≡ cond (is_at (nat_cmp v) w) None (lookup (is_at (nat_cmp w)) labels)) → kept ≡ filter (λ e. not (ends_at v e.0)) edges → graph_of left kept ≡ without_vertex (graph_of labels edges) v
+  graph_of-remove_vertex left kept v is kept_is =
+      let fewer_labels = remove-seen nat_cmp_total map.nat_cmp-IsAntisymmetric labels left v is in
+      let fewer_edges = ap map.from_entries kept_is ∙ retain-seen pair_cmp_total pair_cmp-IsAntisymmetric edges (λ e. not (ends_at v e)) in
+      λ i. record { labels = fewer_labels i; edges = fewer_edges i }

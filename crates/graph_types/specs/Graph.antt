@@ -1,5 +1,5 @@
 -- A labelled graph, as two finite maps.
-use Rattle.std.specs.Prelude.{ℕ, Bool, IsTrue, List, min, max, refl}
+use Rattle.std.specs.Prelude.{ℕ, Bool, IsTrue, not, ◌&&◌, ◌||◌, eqb, List, filter, min, max, refl}
 use Rattle.std.specs.Coded.{Coded, code_by, coded×, coded_ℕ}
 use Rattle.std.specs.FinMap as map
 use Rattle.std.specs.Ordering.{nat_cmp, ordering_then}
@@ -46,6 +46,29 @@ with_vertex g v label = record { labels = map.insert g.labels v label; edges = g
 
 abbrev pub with_edge : Graph → ℕ × ℕ → ℕ → Graph
 with_edge g e label = record { labels = g.labels; edges = map.insert g.edges e label }
+
+-- the graph without an edge
+abbrev pub without_edge : Graph → ℕ × ℕ → Graph
+without_edge g e = record { labels = g.labels; edges = map.remove g.edges e }
+
+-- the edge ends at the vertex
+abbrev pub ends_at : ℕ → ℕ × ℕ → Bool
+ends_at v e = eqb v e.0 || eqb v e.1
+
+-- the graph without a vertex and the edges that end there
+abbrev pub without_vertex : Graph → ℕ → Graph
+without_vertex g v = record {
+  labels = map.remove g.labels v;
+  edges = map.retain_keys g.edges (λ e. not (ends_at v e));
+}
+
+-- the graph has an edge from one vertex to another
+abbrev pub is_joined : Graph → ℕ → ℕ → Bool
+is_joined g v w = not (eqb v w) && has_edge g (edge_between v w)
+
+-- the vertices that an edge joins with v, ascending
+abbrev pub neighbours : Graph → ℕ → List ℕ
+neighbours g v = filter (is_joined g v) (map.keys g.labels)
 
 -- a graph is stored as the pair of its maps
 abbrev pub graph_code : Coded Graph

@@ -1,6 +1,6 @@
 ghost use Rattle.std.specs.Prelude.{◌≡◌, IsSome, IfOk, OnOk, OnErr};
 ghost use Rattle.std.specs.FinMap as map;
-ghost use Rattle.graph_types.specs.Graph.{empty_graph, with_vertex, with_edge, HasEnds};
+ghost use Rattle.graph_types.specs.Graph.{empty_graph, with_vertex, with_edge, without_vertex, without_edge, HasEnds, is_joined, neighbours};
 
 use crate::{Edge, EdgeList, LabelId, NoMemory, VertexId, VertexList};
 use std::alloc::Global;
@@ -73,6 +73,22 @@ impl Snapshot {
         Ok(())
     }
 
+    /// Takes a vertex out, and each edge that ends there, if the vertex is there. Takes time linear in
+    /// the number of edges, and no memory.
+    pub fn take_vertex(&mut self, v: VertexId)
+        ensures { self.new ≡ without_vertex self.old v }
+    {
+        self.labels.remove(&v);
+        self.edges.retain(|e, _| e.a() != v && e.b() != v);
+    }
+
+    /// Takes an edge out, if it is there. Takes time logarithmic in the number of edges, and no memory.
+    pub fn take_edge(&mut self, e: Edge)
+        ensures { self.new ≡ without_edge self.old e }
+    {
+        self.edges.remove(&e);
+    }
+
     /// The vertices, ascending, in a new list.
     pub fn vertices(&self, alloc: Global) -> Result<VertexList, NoMemory>
         ensures { IfOk result (λ vs. vs ≡ map.keys self.now.labels) }
@@ -93,6 +109,29 @@ impl Snapshot {
             edges.push(*e)?;
         }
         Ok(edges)
+    }
+
+    /// The vertices that an edge joins with `v`, ascending, in a new list. Takes time linear in the
+    /// number of vertices, with a look-up for each.
+    pub fn near(&self, alloc: Global, v: VertexId) -> Result<VertexList, NoMemory>
+        ensures { IfOk result (λ near. near ≡ neighbours self.now v) }
+    {
+        let mut near = VertexList::new(alloc);
+        for w in self.labels.keys() {
+            if self.is_joined(v, *w) {
+                near.push(*w)?;
+            }
+        }
+        Ok(near)
+    }
+
+    fn is_joined(&self, v: VertexId, w: VertexId) -> bool
+        ensures { result ≡ is_joined self.now v w }
+    {
+        match Edge::of(v, w) {
+            Some(e) => self.edges.contains_key(&e),
+            None => false,
+        }
     }
 }
 
@@ -115,6 +154,31 @@ mod tests {
         assert_eq!(rt; vertices.as_slice(), [VertexId(1), VertexId(2)].as_slice());
         let edges = snapshot.edges(rt.alloc())?;
         assert_eq!(rt; edges.as_slice(), [edge].as_slice());
+        Ok(())
+    }
+
+    fn join(graph: &mut Snapshot, x: u32, y: u32) -> Result<Edge, Fail> {
+        let edge = Edge::of(VertexId(x), VertexId(y)).ok_or("a loop")?;
+        graph.put_vertex(VertexId(x), LabelId(0))?;
+        graph.put_vertex(VertexId(y), LabelId(0))?;
+        graph.put_edge(edge, LabelId(0))?;
+        Ok(edge)
+    }
+
+    #[test]
+    fn takes_out_of_a_path(rt: HostRuntime) -> Result<(), Fail> {
+        let mut path = Snapshot::new(rt.alloc());
+        let low = join(&mut path, 1, 2)?;
+        let high = join(&mut path, 2, 3)?;
+        let near = path.near(rt.alloc(), VertexId(2))?;
+        assert_eq!(rt; near.as_slice(), [VertexId(1), VertexId(3)].as_slice());
+        path.take_edge(low);
+        let edges = path.edges(rt.alloc())?;
+        assert_eq!(rt; edges.as_slice(), [high].as_slice());
+        path.take_vertex(VertexId(2));
+        let vertices = path.vertices(rt.alloc())?;
+        assert_eq!(rt; vertices.as_slice(), [VertexId(1), VertexId(3)].as_slice());
+        assert!(rt; path.edges(rt.alloc())?.is_empty());
         Ok(())
     }
 }

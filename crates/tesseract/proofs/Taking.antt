@@ -63,6 +63,8 @@ refused-from n m text u fault.VertexExists said not_memory is =
     ap (judged_update n (every_piece m.size) m.graph) said ∙ refused_step n _ u _ _ is
 refused-from n m text u fault.EdgeExists said not_memory is =
     ap (judged_update n (every_piece m.size) m.graph) said ∙ refused_step n _ u _ _ is
+refused-from n m text u fault.NoEdge said not_memory is =
+    ap (judged_update n (every_piece m.size) m.graph) said ∙ refused_step n _ u _ _ is
 refused-from n m text u fault.NoMemory said not_memory is = absurd (not_memory refl)
 
 -- a line that is not too long, and not one too many

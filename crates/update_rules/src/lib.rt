@@ -2,7 +2,7 @@
 #![tactic(auto)]
 
 ghost use Rattle.std.specs.Prelude.{◌≡◌};
-ghost use Rattle.update_rules.specs.Steps.{Steps};
+ghost use Rattle.update_rules.specs.Steps.{Joins, Steps};
 
 use graph_types::{Edge, LabelId, NoMemory, Snapshot, Update, VertexId};
 
@@ -17,6 +17,8 @@ pub enum StepFault {
     VertexExists,
     /// The edge that is to be added is there.
     EdgeExists,
+    /// The edge that is to be removed or labelled is absent.
+    NoEdge,
     /// An allocation was refused.
     NoMemory,
 }
@@ -31,13 +33,18 @@ impl From<NoMemory> for StepFault {
     }
 }
 
-/// Makes the update, in a few look-ups and one insertion. A refused update changes nothing.
+/// Makes the update, in a few look-ups and one change; to remove a vertex takes time linear in the
+/// number of edges. A label may be given again. A refused update changes nothing.
 pub fn step(graph: &mut Snapshot, update: &Update) -> Result<(), StepFault>
     ensures { Steps graph.old update.now result graph.new }
 {
     match *update {
         Update::AddVertex { id, label } => add_vertex(graph, id, label),
+        Update::RemoveVertex { id } => remove_vertex(graph, id),
+        Update::LabelVertex { id, label } => label_vertex(graph, id, label),
         Update::AddEdge { from, to, label } => add_edge(graph, from, to, label),
+        Update::RemoveEdge { from, to } => remove_edge(graph, from, to),
+        Update::LabelEdge { from, to, label } => label_edge(graph, from, to, label),
     }
 }
 
@@ -51,6 +58,26 @@ fn add_vertex(graph: &mut Snapshot, id: VertexId, label: LabelId) -> Result<(), 
     Ok(())
 }
 
+fn remove_vertex(graph: &mut Snapshot, id: VertexId) -> Result<(), StepFault>
+    ensures { Steps graph.old (Update.RemoveVertex id) result graph.new }
+{
+    if graph.label(id).is_none() {
+        return Err(StepFault::NoVertex(id));
+    }
+    graph.take_vertex(id);
+    Ok(())
+}
+
+fn label_vertex(graph: &mut Snapshot, id: VertexId, label: LabelId) -> Result<(), StepFault>
+    ensures { Steps graph.old (Update.LabelVertex id label) result graph.new }
+{
+    if graph.label(id).is_none() {
+        return Err(StepFault::NoVertex(id));
+    }
+    graph.put_vertex(id, label)?;
+    Ok(())
+}
+
 fn add_edge(
     graph: &mut Snapshot,
     from: VertexId,
@@ -58,6 +85,45 @@ fn add_edge(
     label: LabelId,
 ) -> Result<(), StepFault>
     ensures { Steps graph.old (Update.AddEdge from to label) result graph.new }
+{
+    let edge = joining(graph, from, to)?;
+    if graph.edge_label(edge).is_some() {
+        return Err(StepFault::EdgeExists);
+    }
+    graph.put_edge(edge, label)?;
+    Ok(())
+}
+
+fn remove_edge(graph: &mut Snapshot, from: VertexId, to: VertexId) -> Result<(), StepFault>
+    ensures { Steps graph.old (Update.RemoveEdge from to) result graph.new }
+{
+    let edge = joining(graph, from, to)?;
+    if graph.edge_label(edge).is_none() {
+        return Err(StepFault::NoEdge);
+    }
+    graph.take_edge(edge);
+    Ok(())
+}
+
+fn label_edge(
+    graph: &mut Snapshot,
+    from: VertexId,
+    to: VertexId,
+    label: LabelId,
+) -> Result<(), StepFault>
+    ensures { Steps graph.old (Update.LabelEdge from to label) result graph.new }
+{
+    let edge = joining(graph, from, to)?;
+    if graph.edge_label(edge).is_none() {
+        return Err(StepFault::NoEdge);
+    }
+    graph.put_edge(edge, label)?;
+    Ok(())
+}
+
+/// The edge between two vertices that are there.
+fn joining(graph: &Snapshot, from: VertexId, to: VertexId) -> Result<Edge, StepFault>
+    ensures { Joins graph.now from to result }
 {
     let Some(edge) = Edge::of(from, to) else {
         return Err(StepFault::Loop);
@@ -68,11 +134,7 @@ fn add_edge(
     if graph.label(to).is_none() {
         return Err(StepFault::NoVertex(to));
     }
-    if graph.edge_label(edge).is_some() {
-        return Err(StepFault::EdgeExists);
-    }
-    graph.put_edge(edge, label)?;
-    Ok(())
+    Ok(edge)
 }
 
 #[cfg(test)]
@@ -94,6 +156,32 @@ mod tests {
         }
     }
 
+    fn remove_vertex(id: u32) -> Update {
+        Update::RemoveVertex { id: VertexId(id) }
+    }
+
+    fn label_vertex(id: u32) -> Update {
+        Update::LabelVertex {
+            id: VertexId(id),
+            label: LabelId(0),
+        }
+    }
+
+    fn remove_edge(from: u32, to: u32) -> Update {
+        Update::RemoveEdge {
+            from: VertexId(from),
+            to: VertexId(to),
+        }
+    }
+
+    fn label_edge(from: u32, to: u32) -> Update {
+        Update::LabelEdge {
+            from: VertexId(from),
+            to: VertexId(to),
+            label: LabelId(0),
+        }
+    }
+
     #[test]
     fn steps_from_an_empty_snapshot(rt: HostRuntime) {
         let mut graph = Snapshot::new(rt.alloc());
@@ -102,10 +190,22 @@ mod tests {
             (vertex(1), Ok(())),
             (edge(1, 2), Err(StepFault::NoVertex(VertexId(2)))),
             (vertex(2), Ok(())),
+            (remove_edge(1, 2), Err(StepFault::NoEdge)),
+            (label_edge(1, 2), Err(StepFault::NoEdge)),
             (edge(1, 2), Ok(())),
             (edge(2, 1), Err(StepFault::EdgeExists)),
             (vertex(1), Err(StepFault::VertexExists)),
             (edge(9, 9), Err(StepFault::Loop)),
+            (label_vertex(1), Ok(())),
+            (label_vertex(3), Err(StepFault::NoVertex(VertexId(3)))),
+            (label_edge(2, 1), Ok(())),
+            (remove_vertex(1), Ok(())),
+            (remove_vertex(1), Err(StepFault::NoVertex(VertexId(1)))),
+            (vertex(1), Ok(())),
+            (remove_edge(1, 2), Err(StepFault::NoEdge)),
+            (edge(1, 2), Ok(())),
+            (remove_edge(2, 1), Ok(())),
+            (remove_edge(2, 1), Err(StepFault::NoEdge)),
         ] {
             assert_eq!(rt; step(&mut graph, &update), result, "at {update:?}");
         }
