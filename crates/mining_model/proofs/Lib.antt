@@ -1,3 +1,4 @@
 pub mod Sides
 pub mod VertexPictures
 pub mod Texts
+pub mod Ascending

@@ -75,28 +75,26 @@ reached_next : (most : ℕ) (gone : List Line) (text more : List ℕ) (n t u : �
     Reached most gone text n t stage → LeadsOn most (suc n) stage t line.bytes next u more →
     Reached most (gone ++ line ∷ []) (text ++ more) (suc n) u next
 reached_next most gone text more n t u stage next line reached (inl m) =
-    let so =
-    Reached-moved most gone text n stage next line
-    (subst (λ t. Reached most gone text n t stage) m.no_stamp reached) m.moved_is in
+    let so = Reached-moved most gone text n t stage next line reached m.stamp_of_stage m.moved_is in
     let same : text ≡ text ++ more =
     sym (append-nil text) ∙ ap (λ xs. text ++ xs) (sym m.no_text) in
-    subst (λ u. Reached most (gone ++ line ∷ []) (text ++ more) (suc n) u next) (sym m.still_none)
-    (subst (λ text. Reached most (gone ++ line ∷ []) text (suc n) 0 next) same so)
+    subst (λ u. Reached most (gone ++ line ∷ []) (text ++ more) (suc n) u next) (sym m.same_stamp)
+    (subst (λ text. Reached most (gone ++ line ∷ []) text (suc n) t next) same so)
 reached_next most gone text more n t u stage next line reached (inr a) =
-    let at : Reached most gone text n t (streaming a.pattern a.before) =
+    let at : Reached most gone text n t (streaming a.pattern a.names a.before) =
     subst (Reached most gone text n t) a.stage_is reached in
     let judged_is :
-    judged most (suc n) (streaming a.pattern a.before) line.bytes
-    ≡ accepted a.update a.pattern a.now =
+    judged most (suc n) (streaming a.pattern a.names a.before) line.bytes
+    ≡ accepted a.update a.pattern a.later a.now =
     ap (λ s. judged most (suc n) s line.bytes) (sym a.stage_is) ∙ a.accepted_is in
     let so =
-    Reached-accepted most gone text n t a.pattern a.pattern a.before a.now a.update line at
-    judged_is in
+    Reached-accepted most gone text n t a.pattern a.pattern a.names a.later a.before a.now a.update
+    line at judged_is in
     subst (λ u. Reached most (gone ++ line ∷ []) (text ++ more) (suc n) u next) (sym a.stamp_is)
     (subst (λ s. Reached most (gone ++ line ∷ []) (text ++ more) (suc n) (suc t) s) (sym a.next_is)
     (subst
     (λ xs. Reached most (gone ++ line ∷ []) (text ++ xs) (suc n) (suc t)
-    (streaming a.pattern a.now))
+    (streaming a.pattern a.later a.now))
     (sym a.text_is) so))
 
 -- what LFs ended so far, once the next line was given
@@ -187,7 +185,7 @@ unless_unread status.WriteFault unread read stop so = absurd stop
 unless_unread_clean : (n : ℕ) (stage : Stage) (unread read : Type 0) → read →
     IfUnread (end_of (ended n stage None)) unread read
 unless_unread_clean n (heading next) unread read so = so
-unless_unread_clean n (streaming pattern g) unread read so = so
+unless_unread_clean n (streaming pattern names g) unread read so = so
 
 module _ (most : ℕ) (bytes was is text : List ℕ) (old new : Reading) (stage : Stage) (t : ℕ)
     (at : AtLine most bytes was text old stage t) where

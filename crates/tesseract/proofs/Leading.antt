@@ -5,27 +5,35 @@ use Rattle.graph_types.specs.declared.update.Update.{Update}
 use Rattle.job_io.specs.Lines.{Line, lines_of}
 use Rattle.mining_model.specs.Embeddings.{Pattern}
 use Rattle.mining_model.specs.Text.{step_text}
-use Rattle.tesseract.specs.Job.{Stage, streaming, moved, accepted, judged}
+use Rattle.update_reader.specs.Names.{Names}
+use Rattle.tesseract.specs.Job.{Stage, heading, streaming, moved, accepted, judged}
 
 -- Line n of the stream is an update that is accepted; `text` is its timestamp's.
 pub record Accepts (most n : ℕ) (stage : Stage) (t : ℕ) (bytes : List ℕ)
     (next : Stage) (u : ℕ) (text : List ℕ) : Type 0 where
   pub pattern : Pattern
+  pub names : Names
+  pub later : Names
   pub before : Graph
   pub update : Update
   pub now : Graph
-  pub stage_is : stage ≡ streaming pattern before
-  pub next_is : next ≡ streaming pattern now
-  pub accepted_is : judged most n stage bytes ≡ accepted update pattern now
+  pub stage_is : stage ≡ streaming pattern names before
+  pub next_is : next ≡ streaming pattern later now
+  pub accepted_is : judged most n stage bytes ≡ accepted update pattern later now
   pub stamp_is : u ≡ suc t
   pub text_is : text ≡ step_text pattern before now (suc t)
 
--- Line n leads on, and no timestamp is taken yet.
+-- No timestamp is taken before the header is whole.
+abbrev pub IsStampOf : Stage → ℕ → Type 0
+IsStampOf (heading next) t = t ≡ 0
+IsStampOf (streaming pattern names g) t = Unit {0}
+
+-- Line n leads on, and takes no timestamp.
 pub record Moves (most n : ℕ) (stage : Stage) (t : ℕ) (bytes : List ℕ)
     (next : Stage) (u : ℕ) (text : List ℕ) : Type 0 where
   pub moved_is : judged most n stage bytes ≡ moved next
-  pub no_stamp : t ≡ 0
-  pub still_none : u ≡ 0
+  pub stamp_of_stage : IsStampOf stage t
+  pub same_stamp : u ≡ t
   pub no_text : text ≡ []
 
 -- Line n leads from a stage, before which t timestamps were taken, to the next, before which u

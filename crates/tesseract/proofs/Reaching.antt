@@ -6,7 +6,8 @@ use Rattle.graph_types.specs.Graph.{Graph, empty_graph}
 use Rattle.graph_types.specs.declared.update.Update.{Update}
 use Rattle.job_io.specs.Lines.{Line, without_cr, most_line_bytes}
 use Rattle.job_io.specs.Fields.{words_of}
-use Rattle.update_reader.specs.Grammar.{update_of}
+use Rattle.update_reader.specs.Names.{Names}
+use Rattle.update_reader.specs.Grammar.{Said, nothing, commit, update, too_many_labels, bad_line, said}
 use Rattle.mining_model.specs.Step.{Refusal, step, left_by, after}
 use Rattle.mining_model.specs.Embeddings.{Pattern}
 use Rattle.mining_model.specs.Text.{step_text, text_from}
@@ -19,10 +20,11 @@ use Rattle.tesseract.specs.Header.{header_step}
 use Rattle.tesseract.specs.declared.status.Status.{Status}
 use Rattle.tesseract.specs.declared.status.Status.TheVariants as status
 use Rattle.tesseract.specs.Job.{Stage, heading, streaming, Judged, refused, moved, accepted}
-use Rattle.tesseract.specs.Job.{judged_header, judged_step, judged_update, judged_line, judged}
-use Rattle.tesseract.specs.Job.{long_line, Verdict, ended, led_on, judge, verdict, text_of}
+use Rattle.tesseract.specs.Job.{judged_header, judged_step, judged_said, judged_line, judged}
+use Rattle.tesseract.specs.Job.{Verdict, ended, led_on, judge, verdict, text_of}
 use Rattle.tesseract.specs.Job.{text_under, end_of}
 use Rattle.tesseract.specs.Progress.{text_behind, Reached}
+use Rattle.tesseract.proofs.Leading.{IsStampOf}
 
 -- what a refused line ends a job with
 abbrev pub IsStop : Status → Type 0
@@ -35,10 +37,11 @@ IsStop why = ⊥
 Follows : Stage → Judged → Type 0
 Follows stage (refused why) = IsStop why
 Follows (heading next) (moved (heading later)) = Unit {0}
-Follows (heading next) (moved (streaming pattern g)) = g ≡ empty_graph
-Follows (heading next) (accepted u pattern g) = ⊥
-Follows (streaming pattern g) (moved later) = ⊥
-Follows (streaming pattern g) (accepted u same now) = (same ≡ pattern) × (now ≡ after g u)
+Follows (heading next) (moved (streaming pattern names g)) = g ≡ empty_graph
+Follows (heading next) (accepted u pattern names g) = ⊥
+Follows (streaming pattern names g) (moved (heading next)) = ⊥
+Follows (streaming pattern names g) (moved (streaming same later now)) = (same ≡ pattern) × (now ≡ g)
+Follows (streaming pattern names g) (accepted u same later now) = (same ≡ pattern) × (now ≡ after g u)
 
 choice : (P : Judged → Type 0) (b : Bool) (x y : Judged) → P x → P y → P (cond b x y)
 choice P true x y p q = p
@@ -51,55 +54,56 @@ follows_header n next None = tt
 follows_header n next (Some (More later)) = tt
 follows_header n next (Some (Ready size)) = refl
 
-follows_step : (n : ℕ) (pattern : Pattern) (g : Graph) (u : Update)
+follows_step : (n : ℕ) (pattern : Pattern) (names later : Names) (g : Graph) (u : Update)
     (stepped : Result Graph Refusal) → step g u ≡ stepped →
-    Follows (streaming pattern g) (judged_step n pattern u stepped)
+    Follows (streaming pattern names g) (judged_step n pattern later u stepped)
 unfolding Follows
-follows_step n pattern g u (Ok now) is = (refl, sym (ap (left_by g) is))
-follows_step n pattern g u (Err refusal) is = tt
+follows_step n pattern names later g u (Ok now) is = (refl, sym (ap (left_by g) is))
+follows_step n pattern names later g u (Err refusal) is = tt
 
-follows_update : (n : ℕ) (pattern : Pattern) (g : Graph) (u : Option Update) →
-    Follows (streaming pattern g) (judged_update n pattern g u)
+follows_said : (n : ℕ) (pattern : Pattern) (names : Names) (g : Graph) (line : Said) →
+    Follows (streaming pattern names g) (judged_said n pattern names g line)
 unfolding Follows
-follows_update n pattern g None = tt
-follows_update n pattern g (Some u) = follows_step n pattern g u (step g u) refl
+follows_said n pattern names g nothing = (refl, refl)
+follows_said n pattern names g commit = (refl, refl)
+follows_said n pattern names g (update u later) = follows_step n pattern names later g u (step g u) refl
+follows_said n pattern names g too_many_labels = tt
+follows_said n pattern names g bad_line = tt
 
 follows_line : (n : ℕ) (stage : Stage) (bytes : List ℕ) → Follows stage (judged_line n stage bytes)
 follows_line n (heading next) bytes =
     follows_header n next (header_step next (words_of (without_cr bytes)))
-follows_line n (streaming pattern g) bytes =
-    follows_update n pattern g (update_of (without_cr bytes))
-
-stop_long : (n : ℕ) (stage : Stage) → IsStop (long_line n stage)
-stop_long n (heading next) = tt
-stop_long n (streaming pattern g) = tt
+follows_line n (streaming pattern names g) bytes =
+    follows_said n pattern names g (said names (without_cr bytes))
 
 follows : (most n : ℕ) (stage : Stage) (bytes : List ℕ) → Follows stage (judged most n stage bytes)
 unfolding Follows
 follows most n stage bytes =
     choice (Follows stage) (nat_lt most n) _ _ tt
-    (choice (Follows stage) (nat_lt most_line_bytes (length bytes)) _ _ (stop_long n stage)
-    (follows_line n stage bytes))
+    (choice (Follows stage) (nat_lt most_line_bytes (length bytes)) _ _ tt (follows_line n stage bytes))
 
-led_pattern : (n : ℕ) (pattern : Pattern) (g : Graph) (j : Judged) (rest : Stage → Verdict) →
-    Follows (streaming pattern g) j →
-    ((now : Graph) → (rest (streaming pattern now)).pattern ≡ Some pattern) →
-    (led_on n (streaming pattern g) j rest).pattern ≡ Some pattern
+led_pattern : (n : ℕ) (pattern : Pattern) (names : Names) (g : Graph) (j : Judged)
+    (rest : Stage → Verdict) →
+    Follows (streaming pattern names g) j →
+    ((later : Names) (now : Graph) → (rest (streaming pattern later now)).pattern ≡ Some pattern) →
+    (led_on n (streaming pattern names g) j rest).pattern ≡ Some pattern
 unfolding Follows
-led_pattern n pattern g (refused why) rest f same = refl
-led_pattern n pattern g (moved next) rest f same = absurd f
-led_pattern n pattern g (accepted u other now) rest f same =
-    ap (λ q. (rest (streaming q now)).pattern) f.0 ∙ same now
+led_pattern n pattern names g (refused why) rest f same = refl
+led_pattern n pattern names g (moved (heading next)) rest f same = absurd f
+led_pattern n pattern names g (moved (streaming other later now)) rest f same =
+    ap (λ q. (rest (streaming q later now)).pattern) f.0 ∙ same later now
+led_pattern n pattern names g (accepted u other later now) rest f same =
+    ap (λ q. (rest (streaming q later now)).pattern) f.0 ∙ same later now
 
 -- a verdict behind a stage of the stream has the stage's program
-streaming_pattern : (most n : ℕ) (pattern : Pattern) (g : Graph) (lines : List Line) →
-    (judge most n (streaming pattern g) lines).pattern ≡ Some pattern
-streaming_pattern most n pattern g [] = refl
-streaming_pattern most n pattern g (line ∷ lines) =
-    led_pattern n pattern g (judged most (suc n) (streaming pattern g) line.bytes)
+streaming_pattern : (most n : ℕ) (pattern : Pattern) (names : Names) (g : Graph) (lines : List Line) →
+    (judge most n (streaming pattern names g) lines).pattern ≡ Some pattern
+streaming_pattern most n pattern names g [] = refl
+streaming_pattern most n pattern names g (line ∷ lines) =
+    led_pattern n pattern names g (judged most (suc n) (streaming pattern names g) line.bytes)
     (λ next. judge most (suc n) next lines)
-    (follows most (suc n) (streaming pattern g) line.bytes)
-    (λ now. streaming_pattern most (suc n) pattern now lines)
+    (follows most (suc n) (streaming pattern names g) line.bytes)
+    (λ later now. streaming_pattern most (suc n) pattern later now lines)
 
 -- nothing was read yet
 pub Reached-start : (most : ℕ) → Reached most [] [] 0 0 (heading awaited.Mode)
@@ -112,18 +116,22 @@ module _ (most n : ℕ) (stage : Stage) (line : Line) where
       judge most n stage (line ∷ lines) ≡ led_on n stage j (λ next. judge most (suc n) next lines)
   judge-cons j is lines = ap (λ j. led_on n stage j (λ next. judge most (suc n) next lines)) is
 
--- a line of the header leads on, and no timestamp comes of it
-text_behind-moved : (most n : ℕ) (stage next : Stage) (lines : List Line) →
-    Follows stage (moved next) →
-    text_behind stage 0 (judge most n next lines) ≡ text_behind next 0 (judge most n next lines)
+-- a line leads on, and no timestamp comes of it
+text_behind-moved : (most n t : ℕ) (stage next : Stage) (lines : List Line) →
+    Follows stage (moved next) → IsStampOf stage t →
+    text_behind stage t (judge most n next lines) ≡ text_behind next t (judge most n next lines)
 unfolding Follows
-text_behind-moved most n (heading a) (heading b) lines f = refl
-text_behind-moved most n (heading a) (streaming pattern g) lines f =
-    let v = judge most n (streaming pattern g) lines in
-    ap (λ p. text_under p v.updates) (streaming_pattern most n pattern g lines)
+text_behind-moved most n t (heading a) (heading b) lines f none = refl
+text_behind-moved most n t (heading a) (streaming pattern names g) lines f none =
+    let v = judge most n (streaming pattern names g) lines in
+    ap (λ p. text_under p v.updates) (streaming_pattern most n pattern names g lines)
     ∙ sym (text_from-start pattern v.updates)
     ∙ ap (λ h. text_from pattern h 0 v.updates) (sym f)
-text_behind-moved most n (streaming pattern g) next lines f = absurd f
+    ∙ ap (λ t. text_from pattern g t v.updates) (sym none)
+text_behind-moved most n t (streaming pattern names g) (heading b) lines f none = absurd f
+text_behind-moved most n t (streaming pattern names g) (streaming same later now) lines f none =
+    let v = judge most n (streaming same later now) lines in
+    ap (λ p. text_from p g t v.updates) (sym f.0) ∙ ap (λ h. text_from same h t v.updates) (sym f.1)
 
 module _ (most : ℕ) (gone : List Line) (text : List ℕ) (n t : ℕ) (stage : Stage) (line : Line)
     (reached : Reached most gone text n t stage) where
@@ -152,91 +160,79 @@ module _ (most : ℕ) (gone : List Line) (text : List ℕ) (n t : ℕ) (stage : 
       ap (λ all. (verdict most all).stop) (regrouped lines) ∙ reached.whole_stop (line ∷ lines)
       ∙ ap (λ v. v.stop) (judge-cons most n stage line j is lines)
 
--- a line that leads on, where no timestamp was taken yet
-pub Reached-moved : (most : ℕ) (gone : List Line) (text : List ℕ) (n : ℕ) (stage next : Stage)
+-- a line that leads on takes no timestamp
+pub Reached-moved : (most : ℕ) (gone : List Line) (text : List ℕ) (n t : ℕ) (stage next : Stage)
     (line : Line) →
-    Reached most gone text n 0 stage → judged most (suc n) stage line.bytes ≡ moved next →
-    Reached most (gone ++ line ∷ []) text (suc n) 0 next
-Reached-moved most gone text n stage next line reached is = record {
+    Reached most gone text n t stage → IsStampOf stage t →
+    judged most (suc n) stage line.bytes ≡ moved next →
+    Reached most (gone ++ line ∷ []) text (suc n) t next
+Reached-moved most gone text n t stage next line reached stamp is = record {
   whole_text = λ lines.
-      text_led most gone text n 0 stage line reached (moved next) is lines
+      text_led most gone text n t stage line reached (moved next) is lines
       ∙ ap (λ more. text ++ more)
-      (text_behind-moved most (suc n) stage next lines
-      (subst (Follows stage) is (follows most (suc n) stage line.bytes)));
-  whole_end = end_led most gone text n 0 stage line reached (moved next) is;
-  whole_stop = stop_led most gone text n 0 stage line reached (moved next) is;
+      (text_behind-moved most (suc n) t stage next lines
+      (subst (Follows stage) is (follows most (suc n) stage line.bytes)) stamp);
+  whole_end = end_led most gone text n t stage line reached (moved next) is;
+  whole_stop = stop_led most gone text n t stage line reached (moved next) is;
 }
 
--- among the updates no line only leads on
-pub streaming-moved : (most n : ℕ) (pattern : Pattern) (g : Graph) (next : Stage) (bytes : List ℕ) →
-    judged most n (streaming pattern g) bytes ≡ moved next → ⊥
+accepted-pattern : (pattern same : Pattern) (names later : Names) (g now : Graph) (u : Update) →
+    Follows (streaming pattern names g) (accepted u same later now) → same ≡ pattern
 unfolding Follows
-streaming-moved most n pattern g next bytes is =
-    subst (Follows (streaming pattern g)) is (follows most n (streaming pattern g) bytes)
+accepted-pattern pattern same names later g now u f = f.0
 
--- in the header no line is an update
-pub heading-accepted : (most n : ℕ) (next : Awaited) (u : Update) (pattern : Pattern) (now : Graph)
-    (bytes : List ℕ) → judged most n (heading next) bytes ≡ accepted u pattern now → ⊥
+accepted-graph : (pattern same : Pattern) (names later : Names) (g now : Graph) (u : Update) →
+    Follows (streaming pattern names g) (accepted u same later now) → now ≡ after g u
 unfolding Follows
-heading-accepted most n next u pattern now bytes is =
-    subst (Follows (heading next)) is (follows most n (heading next) bytes)
-
-accepted-pattern : (pattern same : Pattern) (g now : Graph) (u : Update) →
-    Follows (streaming pattern g) (accepted u same now) → same ≡ pattern
-unfolding Follows
-accepted-pattern pattern same g now u f = f.0
-
-accepted-graph : (pattern same : Pattern) (g now : Graph) (u : Update) →
-    Follows (streaming pattern g) (accepted u same now) → now ≡ after g u
-unfolding Follows
-accepted-graph pattern same g now u f = f.1
+accepted-graph pattern same names later g now u f = f.1
 
 -- an update that was accepted takes the next timestamp
 pub Reached-accepted : (most : ℕ) (gone : List Line) (text : List ℕ) (n t : ℕ)
-    (pattern same : Pattern) (g now : Graph) (u : Update) (line : Line) →
-    Reached most gone text n t (streaming pattern g) →
-    judged most (suc n) (streaming pattern g) line.bytes ≡ accepted u same now →
+    (pattern same : Pattern) (names later : Names) (g now : Graph) (u : Update) (line : Line) →
+    Reached most gone text n t (streaming pattern names g) →
+    judged most (suc n) (streaming pattern names g) line.bytes ≡ accepted u same later now →
     Reached most (gone ++ line ∷ []) (text ++ step_text pattern g now (suc t)) (suc n) (suc t)
-    (streaming pattern now)
-Reached-accepted most gone text n t pattern same g now u line reached is =
-    let stage = streaming pattern g in
-    let follow : Follows stage (accepted u same now) =
+    (streaming pattern later now)
+Reached-accepted most gone text n t pattern same names later g now u line reached is =
+    let stage = streaming pattern names g in
+    let follow : Follows stage (accepted u same later now) =
     subst (Follows stage) is (follows most (suc n) stage line.bytes) in
-    let pattern_is = accepted-pattern pattern same g now u follow in
-    let graph_is = accepted-graph pattern same g now u follow in
+    let pattern_is = accepted-pattern pattern same names later g now u follow in
+    let graph_is = accepted-graph pattern same names later g now u follow in
     record {
       whole_text = λ lines.
-          let v = judge most (suc n) (streaming same now) lines in
-          text_led most gone text n t stage line reached (accepted u same now) is lines
+          let v = judge most (suc n) (streaming same later now) lines in
+          text_led most gone text n t stage line reached (accepted u same later now) is lines
           ∙ ap
           (λ h. text ++ (step_text pattern g h (suc t) ++ text_from pattern h (suc t) v.updates))
           (sym graph_is)
           ∙ sym (append_assoc text (step_text pattern g now (suc t))
           (text_from pattern now (suc t) v.updates))
           ∙ ap (λ q. (text ++ step_text pattern g now (suc t))
-          ++ text_from pattern now (suc t) (judge most (suc n) (streaming q now) lines).updates)
+          ++ text_from pattern now (suc t)
+          (judge most (suc n) (streaming q later now) lines).updates)
           pattern_is;
       whole_end =
-          λ lines. end_led most gone text n t stage line reached (accepted u same now) is lines
-          ∙ ap (λ q. end_of (judge most (suc n) (streaming q now) lines)) pattern_is;
+          λ lines. end_led most gone text n t stage line reached (accepted u same later now) is lines
+          ∙ ap (λ q. end_of (judge most (suc n) (streaming q later now) lines)) pattern_is;
       whole_stop =
-          λ lines. stop_led most gone text n t stage line reached (accepted u same now) is lines
-          ∙ ap (λ q. (judge most (suc n) (streaming q now) lines).stop) pattern_is;
+          λ lines. stop_led most gone text n t stage line reached (accepted u same later now) is lines
+          ∙ ap (λ q. (judge most (suc n) (streaming q later now) lines).stop) pattern_is;
     }
 
 -- nothing is written for what is not read
 text_behind-ended : (stage : Stage) (t n : ℕ) (stop : Option Status) →
     text_behind stage t (ended n stage stop) ≡ []
 text_behind-ended (heading next) t n stop = refl
-text_behind-ended (streaming pattern g) t n stop = refl
+text_behind-ended (streaming pattern names g) t n stop = refl
 
 ended-end : (stage : Stage) (n : ℕ) (why : Status) → end_of (ended n stage (Some why)) ≡ why
 ended-end (heading next) n why = refl
-ended-end (streaming pattern g) n why = refl
+ended-end (streaming pattern names g) n why = refl
 
 ended-stop : (stage : Stage) (n : ℕ) (stop : Option Status) → (ended n stage stop).stop ≡ stop
 ended-stop (heading next) n stop = refl
-ended-stop (streaming pattern g) n stop = refl
+ended-stop (streaming pattern names g) n stop = refl
 
 module _ (most : ℕ) (gone : List Line) (text : List ℕ) (n t : ℕ) (stage : Stage)
     (reached : Reached most gone text n t stage) where

@@ -1,93 +1,89 @@
 -- A line is taken by a job, and leads on.
 use Rattle.std.proofs.Common.{◌≡◌, ℕ, suc, ◌<◌, ◌≤◌, true, false, List, [], ◌++◌, length, cond}
-use Rattle.std.proofs.Common.{None, Some, Result, Ok, Err, refl, ap, ◌∙◌, arith}
+use Rattle.std.proofs.Common.{None, Some, Ok, Err, refl, sym, ap, ◌∙◌, arith}
 use Rattle.std.specs.Prelude.{nat_lt}
 use Rattle.std.proofs.lemmas.Bool.Decides.{nat_tests}
-use Rattle.graph_types.specs.Graph.{Graph}
 use Rattle.graph_types.specs.Piece.{members_of_all}
 use Rattle.graph_types.specs.declared.update.Update.{Update}
 use Rattle.job_io.specs.Lines.{most_line_bytes}
-use Rattle.mining_model.specs.Step.{Refusal, step}
-use Rattle.mining_model.specs.Embeddings.{Pattern, every_piece}
+use Rattle.mining_model.specs.Step.{step}
+use Rattle.mining_model.specs.Embeddings.{every_piece}
 use Rattle.mining_model.specs.Changes.{gone}
 use Rattle.mining_model.specs.Text.{delta_text, done_text}
-use Rattle.update_reader.specs.Grammar.{update_of}
+use Rattle.update_reader.specs.Names.{Names}
+use Rattle.update_reader.specs.Grammar.{update, said}
 use Rattle.update_rules.specs.Steps.{IsReason}
 use Rattle.update_rules.specs.declared.StepFault.{StepFault}
-use Rattle.update_rules.specs.declared.StepFault.TheVariants as fault
 use Rattle.tesseract.specs.declared.miner.Changes.{Changes}
 use Rattle.tesseract.specs.declared.job.Job.{Job}
 use Rattle.tesseract.specs.declared.job.Job.TheVariants.{Heading, Streaming}
+use Rattle.tesseract.specs.declared.job.Stop.{Stop}
 use Rattle.tesseract.specs.declared.job.Stop.TheVariants as stop
 use Rattle.tesseract.specs.declared.status.Status.{Status}
 use Rattle.tesseract.specs.declared.status.Status.TheVariants as status
-use Rattle.tesseract.specs.declared.status.InputKind.TheVariants as input
 use Rattle.tesseract.specs.declared.status.LimitKind.TheVariants as limit
 use Rattle.tesseract.specs.Mining.{Mining}
 use Rattle.tesseract.specs.Miner.{IsMade}
-use Rattle.tesseract.specs.Job.{Stage, streaming, refused, judged_step, judged_update, judged_line}
-use Rattle.tesseract.specs.Job.{judged, long_line}
-use Rattle.tesseract.specs.Reading.{stage_of, stamp_of, IsTaken, Takes}
+use Rattle.tesseract.specs.Job.{Stage, streaming, refused, judged_step, judged_said}
+use Rattle.tesseract.specs.Job.{judged_line, judged}
+use Rattle.tesseract.specs.Reading.{stage_of, stamp_of, StopsFor, IsTaken, TakesUpdate, Takes}
 use Rattle.tesseract.proofs.Leading.{Accepts, Moves}
 
 -- an update that was read and made
-pub IsTaken-from : (n : ℕ) (m new : Mining) (text : List ℕ) (u : Update) (changes : Changes) →
-    update_of text ≡ Some u → IsMade m u new changes → IsTaken n m text (Streaming new) changes
-IsTaken-from n m new text u changes said made = record {
+pub IsTaken-from : (n : ℕ) (names later : Names) (m new : Mining) (text : List ℕ) (u : Update)
+    (changes : Changes) → said names text ≡ update u later → IsMade m u new changes →
+    IsTaken n names m text (Streaming later new) changes
+IsTaken-from n names later m new text u changes said_is made = record {
   update = u;
+  later = later;
   now = new.graph;
   accepted_is =
-      ap (judged_update n (every_piece m.size) m.graph) said
-      ∙ ap (judged_step n (every_piece m.size) u) made.stepped;
-  stage_is = ap (λ size. streaming (every_piece size) new.graph) made.same_size;
+      ap (judged_said n (every_piece m.size) names m.graph) said_is
+      ∙ ap (judged_step n (every_piece m.size) later u) made.stepped;
+  stage_is = ap (λ size. streaming (every_piece size) later new.graph) made.same_size;
   stamp_is = made.next_stamp;
   rem = made.rem;
   add = made.add;
 }
 
-refused_step : (n : ℕ) (pattern : Pattern) (u : Update) (stepped : Result Graph Refusal)
-    (why : Refusal) → stepped ≡ Err why →
-    judged_step n pattern u stepped ≡ refused (status.BadInput n input.BadLine)
-refused_step n pattern u stepped why is = ap (judged_step n pattern u) is
-
 -- an update that was read, and that the graph refuses
-pub refused-from : (n : ℕ) (m : Mining) (text : List ℕ) (u : Update) (why : StepFault) →
-    update_of text ≡ Some u → (why ≡ fault.NoMemory → ⊥) → IsReason (step m.graph u) why →
-    judged_update n (every_piece m.size) m.graph (update_of text)
-    ≡ refused (status.BadInput n input.BadLine)
-refused-from n m text u fault.Loop said not_memory is =
-    ap (judged_update n (every_piece m.size) m.graph) said ∙ refused_step n _ u _ _ is
-refused-from n m text u (fault.NoVertex v) said not_memory is =
-    ap (judged_update n (every_piece m.size) m.graph) said ∙ refused_step n _ u _ _ is
-refused-from n m text u fault.VertexExists said not_memory is =
-    ap (judged_update n (every_piece m.size) m.graph) said ∙ refused_step n _ u _ _ is
-refused-from n m text u fault.EdgeExists said not_memory is =
-    ap (judged_update n (every_piece m.size) m.graph) said ∙ refused_step n _ u _ _ is
-refused-from n m text u fault.NoEdge said not_memory is =
-    ap (judged_update n (every_piece m.size) m.graph) said ∙ refused_step n _ u _ _ is
-refused-from n m text u fault.NoMemory said not_memory is = absurd (not_memory refl)
+pub Takes-unmade : (n : ℕ) (names later : Names) (m : Mining) (text : List ℕ) (u : Update)
+    (fault : StepFault) (why : Stop) → said names text ≡ update u later →
+    IsReason (step m.graph u) fault → StopsFor n fault why → TakesUpdate n names m text (Err why)
+Takes-unmade n names later m text u fault stop.NoMemory said_is reason stops = tt
+Takes-unmade n names later m text u fault (stop.Refused why) said_is reason stops =
+    let told = stops (step m.graph u) reason in
+    ap (judged_said n (every_piece m.size) names m.graph) said_is
+    ∙ ap (judged_step n (every_piece m.size) later u) told.stepped_is
+    ∙ ap refused (sym told.why_is)
+
+-- a line that is not one too many is judged by its length
+not_many : (most n : ℕ) (stage : Stage) (bytes : List ℕ) → n ≤ most →
+    judged most n stage bytes
+    ≡ cond (nat_lt most_line_bytes (length bytes)) (refused (status.Limit limit.LineBytes n))
+    (judged_line n stage bytes)
+not_many most n stage bytes few =
+    let is : nat_lt most n ≡ false = grind (arith, nat_tests) in
+    ap (λ b. cond b (refused (status.Limit limit.Lines n))
+    (cond (nat_lt most_line_bytes (length bytes)) (refused (status.Limit limit.LineBytes n))
+    (judged_line n stage bytes))) is
 
 -- a line that is not too long, and not one too many
 pub judged-short : (most n : ℕ) (stage : Stage) (bytes : List ℕ) → n ≤ most →
     length bytes ≤ most_line_bytes → judged most n stage bytes ≡ judged_line n stage bytes
 judged-short most n stage bytes few short =
-    let not_many : nat_lt most n ≡ false = grind (arith, nat_tests) in
-    let not_long : nat_lt most_line_bytes (length bytes) ≡ false = grind (arith, nat_tests) in
-    ap (λ b. cond b (refused (status.Limit limit.Lines n))
-    (cond (nat_lt most_line_bytes (length bytes)) (refused (long_line n stage))
-    (judged_line n stage bytes))) not_many
-    ∙ ap (λ b. cond b (refused (long_line n stage)) (judged_line n stage bytes)) not_long
+    let is : nat_lt most_line_bytes (length bytes) ≡ false = grind (arith, nat_tests) in
+    not_many most n stage bytes few
+    ∙ ap (λ b. cond b (refused (status.Limit limit.LineBytes n)) (judged_line n stage bytes)) is
 
 -- a line that is too long
 pub judged-long : (most n : ℕ) (stage : Stage) (bytes : List ℕ) → n ≤ most →
-    most_line_bytes < length bytes → judged most n stage bytes ≡ refused (long_line n stage)
+    most_line_bytes < length bytes →
+    judged most n stage bytes ≡ refused (status.Limit limit.LineBytes n)
 judged-long most n stage bytes few long =
-    let not_many : nat_lt most n ≡ false = grind (arith, nat_tests) in
-    let too_long : nat_lt most_line_bytes (length bytes) ≡ true = grind (arith, nat_tests) in
-    ap (λ b. cond b (refused (status.Limit limit.Lines n))
-    (cond (nat_lt most_line_bytes (length bytes)) (refused (long_line n stage))
-    (judged_line n stage bytes))) not_many
-    ∙ ap (λ b. cond b (refused (long_line n stage)) (judged_line n stage bytes)) too_long
+    let is : nat_lt most_line_bytes (length bytes) ≡ true = grind (arith, nat_tests) in
+    not_many most n stage bytes few
+    ∙ ap (λ b. cond b (refused (status.Limit limit.LineBytes n)) (judged_line n stage bytes)) is
 
 -- one line too many
 pub judged-many : (most n : ℕ) (stage : Stage) (bytes : List ℕ) → most < n →
@@ -95,7 +91,7 @@ pub judged-many : (most n : ℕ) (stage : Stage) (bytes : List ℕ) → most < n
 judged-many most n stage bytes many =
     let too_many : nat_lt most n ≡ true = grind (arith, nat_tests) in
     ap (λ b. cond b (refused (status.Limit limit.Lines n))
-    (cond (nat_lt most_line_bytes (length bytes)) (refused (long_line n stage))
+    (cond (nat_lt most_line_bytes (length bytes)) (refused (status.Limit limit.LineBytes n))
     (judged_line n stage bytes))) too_many
 
 -- a line that was taken and says no update
@@ -104,8 +100,9 @@ pub Takes-moves : (most n : ℕ) (old new : Job) (line : List ℕ) →
     Takes n old line (Ok (new, None)) →
     Moves most n (stage_of old) (stamp_of old) line (stage_of new) (stamp_of new) []
 Takes-moves most n (Heading next) new line short taken =
-    record { moved_is = short ∙ taken.0; no_stamp = refl; still_none = taken.1; no_text = refl }
-Takes-moves most n (Streaming m) new line short taken = absurd taken
+    record { moved_is = short ∙ taken.0; stamp_of_stage = refl; same_stamp = taken.1; no_text = refl }
+Takes-moves most n (Streaming names m) new line short taken =
+    record { moved_is = short ∙ taken.0; stamp_of_stage = tt; same_stamp = taken.1; no_text = refl }
 
 -- a line that was taken and says an update
 pub Takes-accepts : (most n : ℕ) (old new : Job) (line : List ℕ) (changes : Changes) →
@@ -115,8 +112,10 @@ pub Takes-accepts : (most n : ℕ) (old new : Job) (line : List ℕ) (changes : 
     (delta_text (stamp_of new) (members_of_all changes.rem) (members_of_all changes.add)
     ++ done_text (stamp_of new))
 Takes-accepts most n (Heading next) new line changes short taken = absurd taken
-Takes-accepts most n (Streaming m) new line changes short taken = record {
+Takes-accepts most n (Streaming names m) new line changes short taken = record {
   pattern = every_piece m.size;
+  names = names;
+  later = taken.later;
   before = m.graph;
   update = taken.update;
   now = taken.now;
@@ -139,4 +138,4 @@ pub Takes-refused : (most n : ℕ) (old : Job) (line : List ℕ) (why : Status) 
     Takes n old line (Err (stop.Refused why)) →
     judged most n (stage_of old) line ≡ refused why
 Takes-refused most n (Heading next) line why short taken = short ∙ taken
-Takes-refused most n (Streaming m) line why short taken = short ∙ taken
+Takes-refused most n (Streaming names m) line why short taken = short ∙ taken

@@ -22,7 +22,7 @@ use Rattle.tesseract.specs.Turning.{Advances}
 use Rattle.tesseract.specs.declared.job.Job.TheVariants.{Heading}
 use Rattle.tesseract.specs.declared.header.Awaited.TheVariants as awaited
 use Rattle.tesseract.specs.Job.{Stage, heading, streaming, refused, judged_line, judged, ended}
-use Rattle.tesseract.specs.Job.{end_of, long_line}
+use Rattle.tesseract.specs.Job.{end_of}
 use Rattle.tesseract.specs.Running.{Running, Ended, Ends, IsEnd}
 use Rattle.tesseract.proofs.Leading.{LeadsOn, Accepts}
 use Rattle.tesseract.proofs.Reaching.{IsStop, judged-stop}
@@ -54,11 +54,7 @@ IsStop-end status.WriteFault stop = absurd stop
 
 pub end_of-end : (n : ℕ) (stage : Stage) → IsEnd (end_of (ended n stage None))
 end_of-end n (heading next) = tt
-end_of-end n (streaming pattern g) = tt
-
-pub long_line-end : (n : ℕ) (stage : Stage) → IsEnd (long_line n stage)
-long_line-end n (heading next) = tt
-long_line-end n (streaming pattern g) = tt
+end_of-end n (streaming pattern names g) = tt
 
 module _ (stage : Stage) (old new : Reading) (was is : Option (List ℕ)) where
   -- the text ended
@@ -80,7 +76,8 @@ module _ (stage : Stage) (old new : Reading) (was is : Option (List ℕ)) where
   -- the next line is too long
   pub ends_long : (n : ℕ) → n ≡ old.number + 1 → n ≤ old.most →
       BothKnown was is (λ was _. LongLineFollows (old.held ++ was)) →
-      BothKnown was is (λ was is. Ends old.most old new was is stage (long_line n stage))
+      BothKnown was is (λ was is.
+      Ends old.most old new was is stage (status.Limit limit.LineBytes n))
   ends_long n next few known = BothKnown-map _ _ was is known (λ was is follows. inr (inl (record {
     line = follows.0;
     others = follows.1;
@@ -88,7 +85,7 @@ module _ (stage : Stage) (old new : Reading) (was is : Option (List ℕ)) where
     refused_is =
         judged-long old.most (suc old.number) stage follows.0.bytes (omega (arith, next, few))
         follows.3
-        ∙ ap (λ n. refused (long_line n stage))
+        ∙ ap (λ n. refused (status.Limit limit.LineBytes n))
         (let e : suc old.number ≡ n = omega (arith, next) in e);
   })))
 
@@ -123,10 +120,11 @@ ends_many stage old new was is n next all known = BothKnown-map _ _ was is known
 -- what a reader that gives no line says of the end
 pub Nexts-long : (stage : Stage) (old new : Reading) (was is : Option (List ℕ)) (n : ℕ) →
     Nexts old new was is (Err (line.TooLong n)) →
-    IsEnd (long_line n stage)
-    × BothKnown was is (λ was is. Ends old.most old new was is stage (long_line n stage))
+    IsEnd (status.Limit limit.LineBytes n)
+    × BothKnown was is (λ was is.
+    Ends old.most old new was is stage (status.Limit limit.LineBytes n))
 Nexts-long stage old new was is n (next, few, known) =
-    (long_line-end n stage, ends_long stage old new was is n next few known)
+    (tt, ends_long stage old new was is n next few known)
 
 pub Nexts-many : (stage : Stage) (old new : Reading) (was is : Option (List ℕ)) (n : ℕ) →
     Nexts old new was is (Err (line.TooMany n)) →

@@ -6,10 +6,11 @@ use Rattle.graph_types.specs.Graph.{Graph, empty_graph}
 use Rattle.graph_types.specs.declared.update.Update.{Update}
 use Rattle.job_io.specs.Lines.{Line, without_cr, most_line_bytes}
 use Rattle.job_io.specs.Fields.{words_of}
-use Rattle.mining_model.specs.Step.{Refusal, step}
+use Rattle.mining_model.specs.Step.{Refusal, is_loop, no_vertex, vertex_exists, edge_exists, no_edge, step}
 use Rattle.mining_model.specs.Embeddings.{Pattern, every_piece}
 use Rattle.mining_model.specs.Text.{text_upto}
-use Rattle.update_reader.specs.Grammar.{update_of}
+use Rattle.update_reader.specs.Names.{Names, first_names}
+use Rattle.update_reader.specs.Grammar.{Said, nothing, commit, update, too_many_labels, bad_line, said}
 use Rattle.tesseract.specs.declared.header.Awaited.{Awaited}
 use Rattle.tesseract.specs.declared.header.Awaited.TheVariants as awaited
 use Rattle.tesseract.specs.declared.header.HeaderStep.{HeaderStep}
@@ -17,54 +18,63 @@ use Rattle.tesseract.specs.declared.header.HeaderStep.TheVariants.{More, Ready}
 use Rattle.tesseract.specs.declared.status.Status.{Status}
 use Rattle.tesseract.specs.declared.status.Status.TheVariants as status
 use Rattle.tesseract.specs.declared.status.ProgramKind.TheVariants as program
+use Rattle.tesseract.specs.declared.status.InputKind.{InputKind}
 use Rattle.tesseract.specs.declared.status.InputKind.TheVariants as input
 use Rattle.tesseract.specs.declared.status.LimitKind.TheVariants as limit
 use Rattle.tesseract.specs.Header.{header_step}
 
--- where the reading of a job stands: in its header, or among its updates, with the graph they left
+-- where the reading of a job stands: in its header, or among its updates, with the names of labels that
+-- they used and the graph that they left
 pub data Stage : Type 0 where
   heading : Awaited → Stage
-  streaming : Pattern → Graph → Stage
+  streaming : Pattern → Names → Graph → Stage
 
 -- what a line does: it is refused, it leads on, or it is an update that the graph accepts
 pub data Judged : Type 0 where
   refused : Status → Judged
   moved : Stage → Judged
-  accepted : Update → Pattern → Graph → Judged
+  accepted : Update → Pattern → Names → Graph → Judged
 
 -- a line of the header, where it has a form
 abbrev pub judged_header : ℕ → Option HeaderStep → Judged
 judged_header n None = refused (status.BadProgram n program.BadLine)
 judged_header n (Some (More next)) = moved (heading next)
-judged_header n (Some (Ready size)) = moved (streaming (every_piece size) empty_graph)
+judged_header n (Some (Ready size)) = moved (streaming (every_piece size) first_names empty_graph)
+
+-- the kind of a refusal by the graph
+abbrev pub kind_of : Refusal → InputKind
+kind_of is_loop = input.Loop
+kind_of (no_vertex v) = input.NoVertex v
+kind_of vertex_exists = input.VertexExists
+kind_of edge_exists = input.EdgeExists
+kind_of no_edge = input.NoEdge
 
 -- an update, by what the graph makes of it
-abbrev pub judged_step : ℕ → Pattern → Update → Result Graph Refusal → Judged
-judged_step n pattern u (Ok after) = accepted u pattern after
-judged_step n pattern u (Err refusal) = refused (status.BadInput n input.BadLine)
+abbrev pub judged_step : ℕ → Pattern → Names → Update → Result Graph Refusal → Judged
+judged_step n pattern names u (Ok after) = accepted u pattern names after
+judged_step n pattern names u (Err refusal) = refused (status.BadInput n (kind_of refusal))
 
--- a line of the stream, where it is an update
-abbrev pub judged_update : ℕ → Pattern → Graph → Option Update → Judged
-judged_update n pattern g None = refused (status.BadInput n input.BadLine)
-judged_update n pattern g (Some u) = judged_step n pattern u (step g u)
+-- A line of the stream, by what it says. A line that says nothing changes nothing, and neither does
+-- `commit`, since each update is mined as it comes.
+abbrev pub judged_said : ℕ → Pattern → Names → Graph → Said → Judged
+judged_said n pattern names g nothing = moved (streaming pattern names g)
+judged_said n pattern names g commit = moved (streaming pattern names g)
+judged_said n pattern names g (update u later) = judged_step n pattern later u (step g u)
+judged_said n pattern names g too_many_labels = refused (status.Limit limit.Labels n)
+judged_said n pattern names g bad_line = refused (status.BadInput n input.BadLine)
 
 -- line n, which has at most the bytes that a line may have
 abbrev pub judged_line : ℕ → Stage → List ℕ → Judged
 judged_line n (heading next) bytes =
     judged_header n (header_step next (words_of (without_cr bytes)))
-judged_line n (streaming pattern g) bytes =
-    judged_update n pattern g (update_of (without_cr bytes))
-
--- the refusal of line n where it has more
-abbrev pub long_line : ℕ → Stage → Status
-long_line n (heading next) = status.BadProgram n program.BadLine
-long_line n (streaming pattern g) = status.BadInput n input.BadLine
+judged_line n (streaming pattern names g) bytes =
+    judged_said n pattern names g (said names (without_cr bytes))
 
 -- line n, where at most `most` lines are allowed
 abbrev pub judged : ℕ → ℕ → Stage → List ℕ → Judged
 judged most n stage bytes =
     if nat_lt most n then refused (status.Limit limit.Lines n)
-    else if nat_lt most_line_bytes (length bytes) then refused (long_line n stage)
+    else if nat_lt most_line_bytes (length bytes) then refused (status.Limit limit.LineBytes n)
     else judged_line n stage bytes
 
 -- What reading a job gives: the program, where its header is whole; the updates that were accepted;
@@ -84,7 +94,7 @@ ended n (heading next) stop =
       stop = stop;
       close = status.BadProgram n program.BadLine;
     }
-ended n (streaming pattern g) stop =
+ended n (streaming pattern names g) stop =
     record { pattern = Some pattern; updates = []; stop = stop; close = status.Ok }
 
 -- u was accepted before all that
@@ -96,7 +106,7 @@ with_update u v =
 abbrev pub led_on : ℕ → Stage → Judged → (Stage → Verdict) → Verdict
 led_on n stage (refused why) rest = ended n stage (Some why)
 led_on n stage (moved next) rest = rest next
-led_on n stage (accepted u pattern g) rest = with_update u (rest (streaming pattern g))
+led_on n stage (accepted u pattern names g) rest = with_update u (rest (streaming pattern names g))
 
 -- The lines behind n others, where at most `most` are allowed. The first that is refused ends all.
 abbrev pub judge : ℕ → ℕ → Stage → List Line → Verdict

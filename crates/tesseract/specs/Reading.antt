@@ -5,51 +5,72 @@ use Rattle.graph_types.specs.Piece.{members_of_all}
 use Rattle.graph_types.specs.declared.update.Update.{Update}
 use Rattle.job_io.specs.Lines.{without_cr}
 use Rattle.job_io.specs.Fields.{words_of}
+use Rattle.mining_model.specs.Step.{Refusal}
 use Rattle.mining_model.specs.Embeddings.{every_piece}
 use Rattle.mining_model.specs.Changes.{gone, come}
 use Rattle.mining_model.specs.Text.{delta_text, done_text}
-use Rattle.update_reader.specs.Grammar.{update_of}
+use Rattle.update_reader.specs.Names.{Names}
+use Rattle.update_reader.specs.Grammar.{said}
 use Rattle.tesseract.specs.declared.header.Awaited.{Awaited}
 use Rattle.tesseract.specs.declared.miner.Changes.{Changes}
 use Rattle.tesseract.specs.declared.job.Job.{Job}
 use Rattle.tesseract.specs.declared.job.Job.TheVariants.{Heading, Streaming}
 use Rattle.tesseract.specs.declared.job.Stop.{Stop}
 use Rattle.tesseract.specs.declared.job.Stop.TheVariants as stop
+use Rattle.update_rules.specs.declared.StepFault.{StepFault}
+use Rattle.update_rules.specs.Steps.{IsReason}
+use Rattle.tesseract.specs.declared.status.Status.{Status}
+use Rattle.tesseract.specs.declared.status.Status.TheVariants as status
 use Rattle.tesseract.specs.Header.{header_step}
 use Rattle.tesseract.specs.Mining.{Mining}
-use Rattle.tesseract.specs.Job.{Stage, heading, streaming, judged_header, judged_update}
+use Rattle.tesseract.specs.Job.{Stage, heading, streaming, kind_of, judged_header, judged_said}
 use Rattle.tesseract.specs.Job.{refused, moved, accepted}
 
 -- where the reading of a job stands
 abbrev pub stage_of : Job → Stage
 stage_of (Heading next) = heading next
-stage_of (Streaming m) = streaming (every_piece m.size) m.graph
+stage_of (Streaming names m) = streaming (every_piece m.size) names m.graph
 
 -- its last timestamp, or 0
 abbrev pub stamp_of : Job → ℕ
 stamp_of (Heading next) = 0
-stamp_of (Streaming m) = m.stamp
+stamp_of (Streaming names m) = m.stamp
+
+-- The job ends at line n, since the graph refused an update so.
+pub record IsRefusal (n : ℕ) (stepped : Result Graph Refusal) (why : Status) : Type 0 where
+  pub refusal : Refusal
+  pub stepped_is : stepped ≡ Err refusal
+  pub why_is : why ≡ status.BadInput n (kind_of refusal)
+
+-- How the job ends at line n where this fault is the reason to refuse a step.
+abbrev pub StopsFor : ℕ → StepFault → Stop → Type 0
+StopsFor n fault stop.NoMemory = Unit {0}
+StopsFor n fault (stop.Refused why) =
+    (stepped : Result Graph Refusal) → IsReason stepped fault → IsRefusal n stepped why
 
 -- Line n says an update that is accepted, and these are its changes.
-pub record IsTaken (n : ℕ) (m : Mining) (text : List ℕ) (job : Job) (changes : Changes) :
+pub record IsTaken (n : ℕ) (names : Names) (m : Mining) (text : List ℕ) (job : Job) (changes : Changes) :
     Type 0 where
   pub update : Update
+  pub later : Names
   pub now : Graph
   pub accepted_is :
-      judged_update n (every_piece m.size) m.graph (update_of text)
-      ≡ accepted update (every_piece m.size) now
-  pub stage_is : stage_of job ≡ streaming (every_piece m.size) now
+      judged_said n (every_piece m.size) names m.graph (said names text)
+      ≡ accepted update (every_piece m.size) later now
+  pub stage_is : stage_of job ≡ streaming (every_piece m.size) later now
   pub stamp_is : stamp_of job ≡ suc m.stamp
   pub rem : members_of_all changes.rem ≡ gone (every_piece m.size) m.graph now
   pub add : members_of_all changes.add ≡ come (every_piece m.size) m.graph now
 
--- Line n of a stream leads to a job with changes, or is refused.
-abbrev pub TakesUpdate : ℕ → Mining → List ℕ → Result (Job × Option Changes) Stop → Type 0
-TakesUpdate n m text (Ok (job, None)) = ⊥
-TakesUpdate n m text (Ok (job, Some changes)) = IsTaken n m text job changes
-TakesUpdate n m text (Err stop.NoMemory) = Unit {0}
-TakesUpdate n m text (Err (stop.Refused why)) =
-    judged_update n (every_piece m.size) m.graph (update_of text) ≡ refused why
+-- Line n of a stream says nothing, or leads to a job with changes, or is refused.
+abbrev pub TakesUpdate : ℕ → Names → Mining → List ℕ → Result (Job × Option Changes) Stop → Type 0
+TakesUpdate n names m text (Ok (job, None)) =
+    (judged_said n (every_piece m.size) names m.graph (said names text) ≡ moved (stage_of job))
+    × (stamp_of job ≡ m.stamp)
+TakesUpdate n names m text (Ok (job, Some changes)) = IsTaken n names m text job changes
+TakesUpdate n names m text (Err stop.NoMemory) = Unit {0}
+TakesUpdate n names m text (Err (stop.Refused why)) =
+    judged_said n (every_piece m.size) names m.graph (said names text) ≡ refused why
 
 -- Line n of a header leads on, or is refused.
 abbrev pub TakesHeader : ℕ → Awaited → List ℕ → Result (Job × Option Changes) Stop → Type 0
@@ -63,7 +84,7 @@ TakesHeader n next text (Err (stop.Refused why)) =
 -- Line n, with its CR, is taken by a job.
 abbrev pub Takes : ℕ → Job → List ℕ → Result (Job × Option Changes) Stop → Type 0
 Takes n (Heading next) line result = TakesHeader n next (without_cr line) result
-Takes n (Streaming m) line result = TakesUpdate n m (without_cr line) result
+Takes n (Streaming names m) line result = TakesUpdate n names m (without_cr line) result
 
 -- the text of a timestamp with these changes; nothing where there is none
 abbrev pub changes_text : ℕ → Option Changes → List ℕ

@@ -26,9 +26,16 @@ program_kind program.BadLine = codes "BadLine"
 
 abbrev pub input_kind : InputKind → List ℕ
 input_kind input.BadLine = codes "BadLine"
+input_kind input.Loop = codes "Loop"
+input_kind (input.NoVertex v) = codes "NoVertex " ++ decimal v
+input_kind input.VertexExists = codes "VertexExists"
+input_kind input.EdgeExists = codes "EdgeExists"
+input_kind input.NoEdge = codes "NoEdge"
 
 abbrev pub limit_kind : LimitKind → List ℕ
 limit_kind limit.Lines = codes "Lines"
+limit_kind limit.Labels = codes "Labels"
+limit_kind limit.LineBytes = codes "LineBytes"
 
 -- the line on standard error; there is none where a run ended well
 abbrev pub line_of : Status → List ℕ

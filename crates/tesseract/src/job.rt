@@ -1,22 +1,22 @@
 ghost use Rattle.std.specs.Prelude.{◌≡◌, ◌<◌, None};
-ghost use Rattle.tesseract.specs.Job.{ended, end_of, long_line};
-ghost use Rattle.tesseract.specs.Reading.{stage_of, stamp_of, Takes, TakesHeader, TakesUpdate};
-ghost use Rattle.update_reader.specs.Grammar.{update_of};
+ghost use Rattle.tesseract.specs.Job.{ended, end_of};
+ghost use Rattle.tesseract.specs.Reading.{stage_of, stamp_of, StopsFor};
+ghost use Rattle.tesseract.specs.Reading.{Takes, TakesHeader, TakesUpdate};
 
 use crate::header::{Awaited, HeaderStep};
 use crate::miner::{Changes, Miner};
-use crate::status::{InputKind, ProgramKind, Status};
-use graph_types::{Stamp, Update};
+use crate::status::{InputKind, LimitKind, ProgramKind, Status};
+use graph_types::{NoMemory, Stamp};
 use job_io::without_cr;
 use std::alloc::Global;
-use update_reader::{Item, UpdateFault, read_line};
+use update_reader::{Item, Names, UpdateFault, read_line};
 use update_rules::StepFault;
 
 /// A job that is being read: its header, and then its updates.
 #[derive(Drop)]
 pub enum Job {
     Heading(Awaited),
-    Streaming(Miner),
+    Streaming(Names, Miner),
 }
 
 /// Why a line leads no further.
@@ -42,7 +42,7 @@ impl Job {
     {
         match self {
             Job::Heading(_) => Stamp(0),
-            Job::Streaming(miner) => miner.stamp(),
+            Job::Streaming(_, miner) => miner.stamp(),
         }
     }
 
@@ -51,24 +51,11 @@ impl Job {
         ensures { result ≡ end_of (ended number (stage_of self.now) None) }
     {
         match self {
-            Job::Heading(_) => self.bad_line(number),
-            Job::Streaming(_) => Status::Ok,
-        }
-    }
-
-    /// The refusal of this line, in the header or in the stream.
-    pub fn bad_line(&self, line: u64) -> Status
-        ensures { result ≡ long_line line (stage_of self.now) }
-    {
-        match self {
             Job::Heading(_) => Status::BadProgram {
-                line,
+                line: number,
                 kind: ProgramKind::BadLine,
             },
-            Job::Streaming(_) => Status::BadInput {
-                line,
-                kind: InputKind::BadLine,
-            },
+            Job::Streaming(_, _) => Status::Ok,
         }
     }
 
@@ -86,7 +73,7 @@ impl Job {
         let text = without_cr(line);
         match self {
             Job::Heading(awaited) => take_header(alloc, awaited, number, text),
-            Job::Streaming(miner) => take_update(alloc, miner, number, text),
+            Job::Streaming(names, miner) => take_update(alloc, names, miner, number, text),
         }
     }
 }
@@ -101,7 +88,10 @@ fn take_header(
 {
     match awaited.take(text) {
         Some(HeaderStep::More(next)) => Ok((Job::Heading(next), None)),
-        Some(HeaderStep::Ready { size }) => { Ok((Job::Streaming(Miner::new(alloc, size)), None)) }
+        Some(HeaderStep::Ready { size }) => match Names::new(alloc) {
+            Ok(names) => Ok((Job::Streaming(names, Miner::new(alloc, size)), None)),
+            Err(NoMemory) => Err(Stop::NoMemory),
+        },
         None => Err(Stop::Refused(Status::BadProgram {
             line,
             kind: ProgramKind::BadLine,
@@ -111,32 +101,46 @@ fn take_header(
 
 fn take_update(
     alloc: Global,
+    names: Names,
     miner: Miner,
     line: u64,
     text: &[u8],
 ) -> Result<(Job, Option<Changes>), Stop>
     requires { miner.stamp < line }
-    ensures { TakesUpdate line miner text.now result }
+    ensures { TakesUpdate line names miner text.now result }
 {
-    let refused = Stop::Refused(Status::BadInput {
-        line,
-        kind: InputKind::BadLine,
-    });
-    let Some(update) = read_update(text) else {
-        return Err(refused);
-    };
-    match miner.make(alloc, &update) {
-        Ok((miner, changes)) => Ok((Job::Streaming(miner), Some(changes))),
-        Err(StepFault::NoMemory) => Err(Stop::NoMemory),
-        Err(_) => Err(refused),
+    let mut names = names;
+    match read_line(alloc, text, &mut names) {
+        Ok(Item::Update(update)) => match miner.make(alloc, &update) {
+            Ok((miner, changes)) => Ok((Job::Streaming(names, miner), Some(changes))),
+            Err(fault) => Err(stop_for(line, fault)),
+        },
+        Ok(Item::Nothing | Item::Commit) => Ok((Job::Streaming(names, miner), None)),
+        Err(UpdateFault::BadLine) => Err(bad_input(line, InputKind::BadLine)),
+        Err(UpdateFault::TooManyLabels) => Err(Stop::Refused(Status::Limit {
+            kind: LimitKind::Labels,
+            at: line,
+        })),
+        Err(UpdateFault::NoMemory) => Err(Stop::NoMemory),
     }
 }
 
-fn read_update(text: &[u8]) -> Option<Update>
-    ensures { result ≡ update_of text.now }
+/// How the job ends at a line whose update the graph refuses.
+fn stop_for(line: u64, fault: StepFault) -> Stop
+    ensures { StopsFor line fault result }
 {
-    match read_line(text) {
-        Ok(Item::Update(update)) => Some(update),
-        Err(UpdateFault::BadLine) => None,
+    match fault {
+        StepFault::Loop => bad_input(line, InputKind::Loop),
+        StepFault::NoVertex(v) => bad_input(line, InputKind::NoVertex(v)),
+        StepFault::VertexExists => bad_input(line, InputKind::VertexExists),
+        StepFault::EdgeExists => bad_input(line, InputKind::EdgeExists),
+        StepFault::NoEdge => bad_input(line, InputKind::NoEdge),
+        StepFault::NoMemory => Stop::NoMemory,
     }
+}
+
+fn bad_input(line: u64, kind: InputKind) -> Stop
+    ensures { result ≡ Stop.Refused (Status.BadInput line kind) }
+{
+    Stop::Refused(Status::BadInput { line, kind })
 }

@@ -136,7 +136,10 @@ fn advance<S: Source>(reader: &mut LineReader, job: &Job, input: &mut S) -> Opti
         Ok(true) => None,
         Ok(false) => Some(job.end(reader.number())),
         Err(LineFault::ReadFault) => Some(Status::ReadFault),
-        Err(LineFault::TooLong(line)) => Some(job.bad_line(line)),
+        Err(LineFault::TooLong(at)) => Some(Status::Limit {
+            kind: LimitKind::LineBytes,
+            at,
+        }),
         Err(LineFault::TooMany(at)) => Some(Status::Limit {
             kind: LimitKind::Lines,
             at,

@@ -43,7 +43,7 @@ pub fn run<R: Wait + Threads, S: Source, O: Sink, E: Sink, G: Gate>(
         (E.faults err.old) (E.faults err.new) (line_of result) }
 {
     let status = carry_out(alloc, words, input, out);
-    tell(err, status);
+    tell(err, &status);
     status
 }
 
@@ -80,9 +80,9 @@ fn says_mine(words: &[String]) -> bool
 }
 
 /// Tells a status. Where this fails too, there is nobody left to tell.
-fn tell<E: Sink>(err: &mut E, status: Status)
+fn tell<E: Sink>(err: &mut E, status: &Status)
     ensures { Tells (E.written err.old) (E.written err.new)
-        (E.faults err.old) (E.faults err.new) (line_of status) }
+        (E.faults err.old) (E.faults err.new) (line_of status.now) }
 {
     let _ = put_all(err, status.line().as_slice());
 }

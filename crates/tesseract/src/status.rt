@@ -1,6 +1,7 @@
 ghost use Rattle.std.specs.Prelude.{◌≡◌, ◌≤◌, ◌++◌, length, codes, decimal};
 ghost use Rattle.tesseract.specs.Status.{program_kind, input_kind, limit_kind};
 
+use graph_types::VertexId;
 use job_io::ShortLine;
 
 /// How a run ended.
@@ -27,15 +28,25 @@ pub enum Status {
 /// What is wrong with a header.
 #[derive(Clone, Copy, Debug, PartialEq, Eq)]
 pub enum ProgramKind {
-    /// A line has another form than the next one of a header, or too many bytes, or none came.
+    /// A line has another form than the next one of a header, or none came.
     BadLine,
 }
 
 /// What is wrong with a line of the stream.
 #[derive(Clone, Copy, Debug, PartialEq, Eq)]
 pub enum InputKind {
-    /// It is no update, or has too many bytes, or the graph refuses the update.
+    /// It is no update.
     BadLine,
+    /// Both ends of an edge are the same vertex.
+    Loop,
+    /// A vertex that has to be there is absent: the first one that was written.
+    NoVertex(VertexId),
+    /// The vertex that is to be added is there.
+    VertexExists,
+    /// The edge that is to be added is there.
+    EdgeExists,
+    /// The edge that is to be removed or labelled is absent.
+    NoEdge,
 }
 
 /// What is limited.
@@ -43,14 +54,18 @@ pub enum InputKind {
 pub enum LimitKind {
     /// The lines of a job.
     Lines,
+    /// The names of labels.
+    Labels,
+    /// The bytes of a line.
+    LineBytes,
 }
 
 impl Status {
     ghost use Rattle.tesseract.specs.Status.{number_of, line_of};
 
     /// The exit status of the program.
-    pub fn number(self) -> u8
-        ensures { result ≡ number_of self }
+    pub fn number(&self) -> u8
+        ensures { result ≡ number_of self.now }
     {
         match self {
             Status::Ok => 0,
@@ -65,16 +80,16 @@ impl Status {
     }
 
     /// The line that tells of it on standard error, with its LF; nothing where all went well.
-    pub fn line(self) -> ShortLine
-        ensures { result ≡ line_of self }
+    pub fn line(&self) -> ShortLine
+        ensures { result ≡ line_of self.now }
     {
         match self {
             Status::Ok => ShortLine::new(),
             Status::NoMemory => phrase(b"no memory\n"),
             Status::Usage => phrase(b"usage: tesseract COMMAND [--NAME VALUE]\n"),
-            Status::BadProgram { line, kind } => refusal(b"program: line ", line, kind.name()),
-            Status::BadInput { line, kind } => refusal(b"input: line ", line, kind.name()),
-            Status::Limit { kind, at } => limit(kind.name(), at),
+            Status::BadProgram { line, kind } => refusal(b"program: line ", *line, &kind.name()),
+            Status::BadInput { line, kind } => refusal(b"input: line ", *line, &kind.name()),
+            Status::Limit { kind, at } => limit(&kind.name(), *at),
             Status::ReadFault => phrase(b"read fault\n"),
             Status::WriteFault => phrase(b"write fault\n"),
         }
@@ -82,34 +97,45 @@ impl Status {
 }
 
 impl ProgramKind {
-    fn name(self) -> &'static [u8]
-        ensures name { result.now ≡ program_kind self }
-        ensures short { length result.now ≤ 100 }
+    fn name(&self) -> ShortLine
+        ensures name { result ≡ program_kind self.now }
+        ensures short { length result ≤ 100 }
     {
         match self {
-            ProgramKind::BadLine => b"BadLine",
+            ProgramKind::BadLine => phrase(b"BadLine"),
         }
     }
 }
 
 impl InputKind {
-    fn name(self) -> &'static [u8]
-        ensures name { result.now ≡ input_kind self }
-        ensures short { length result.now ≤ 100 }
+    fn name(&self) -> ShortLine
+        ensures name { result ≡ input_kind self.now }
+        ensures short { length result ≤ 100 }
     {
         match self {
-            InputKind::BadLine => b"BadLine",
+            InputKind::BadLine => phrase(b"BadLine"),
+            InputKind::Loop => phrase(b"Loop"),
+            InputKind::NoVertex(v) => {
+                let mut name = phrase(b"NoVertex ");
+                name.push_number(u64::from(v.0));
+                name
+            }
+            InputKind::VertexExists => phrase(b"VertexExists"),
+            InputKind::EdgeExists => phrase(b"EdgeExists"),
+            InputKind::NoEdge => phrase(b"NoEdge"),
         }
     }
 }
 
 impl LimitKind {
-    fn name(self) -> &'static [u8]
-        ensures name { result.now ≡ limit_kind self }
-        ensures short { length result.now ≤ 100 }
+    fn name(&self) -> ShortLine
+        ensures name { result ≡ limit_kind self.now }
+        ensures short { length result ≤ 100 }
     {
         match self {
-            LimitKind::Lines => b"Lines",
+            LimitKind::Lines => phrase(b"Lines"),
+            LimitKind::Labels => phrase(b"Labels"),
+            LimitKind::LineBytes => phrase(b"LineBytes"),
         }
     }
 }
@@ -123,7 +149,7 @@ fn phrase(text: &[u8]) -> ShortLine
     line
 }
 
-fn refusal(place: &[u8], number: u64, kind: &[u8]) -> ShortLine
+fn refusal(place: &[u8], number: u64, kind: &ShortLine) -> ShortLine
     requires place { length place.now ≤ 100 }
     requires kind { length kind.now ≤ 100 }
     ensures { result ≡ place.now ++ decimal number ++ codes ": " ++ kind.now ++ codes "\n" }
@@ -131,17 +157,17 @@ fn refusal(place: &[u8], number: u64, kind: &[u8]) -> ShortLine
     let mut line = phrase(place);
     line.push_number(number);
     line.push(b": ");
-    line.push(kind);
+    line.push(kind.as_slice());
     line.push(b"\n");
     line
 }
 
-fn limit(kind: &[u8], at: u64) -> ShortLine
+fn limit(kind: &ShortLine, at: u64) -> ShortLine
     requires { length kind.now ≤ 100 }
     ensures { result ≡ codes "limit: " ++ kind.now ++ codes " " ++ decimal at ++ codes "\n" }
 {
     let mut line = phrase(b"limit: ");
-    line.push(kind);
+    line.push(kind.as_slice());
     line.push(b" ");
     line.push_number(at);
     line.push(b"\n");

@@ -3,7 +3,7 @@ ghost use Rattle.std.specs.Prelude.{◌≤◌};
 use crate::mine::mine;
 use crate::run::run;
 use crate::status::{InputKind, LimitKind, ProgramKind, Status};
-use graph_types::{FreeGate, NoMemory};
+use graph_types::{FreeGate, NoMemory, VertexId};
 use job_io::{ByteList, CallList, MemorySink, MemorySource};
 use std::alloc::Global;
 use std::sync::Wait;
@@ -134,7 +134,7 @@ fn stops_before_one_line_too_many(rt: HostRuntime) -> Result<(), Fail> {
     Ok(())
 }
 
-const STATUSES: [(Status, u8, &[u8]); 8] = [
+const STATUSES: [(Status, u8, &[u8]); 15] = [
     (Status::Ok, 0, b""),
     (Status::NoMemory, 1, b"no memory\n"),
     (
@@ -159,12 +159,68 @@ const STATUSES: [(Status, u8, &[u8]); 8] = [
         b"input: line 12: BadLine\n",
     ),
     (
+        Status::BadInput {
+            line: 6,
+            kind: InputKind::Loop,
+        },
+        4,
+        b"input: line 6: Loop\n",
+    ),
+    (
+        Status::BadInput {
+            line: 6,
+            kind: InputKind::NoVertex(VertexId(u32::MAX)),
+        },
+        4,
+        b"input: line 6: NoVertex 4294967295\n",
+    ),
+    (
+        Status::BadInput {
+            line: 6,
+            kind: InputKind::VertexExists,
+        },
+        4,
+        b"input: line 6: VertexExists\n",
+    ),
+    (
+        Status::BadInput {
+            line: 6,
+            kind: InputKind::EdgeExists,
+        },
+        4,
+        b"input: line 6: EdgeExists\n",
+    ),
+    (
+        Status::BadInput {
+            line: 6,
+            kind: InputKind::NoEdge,
+        },
+        4,
+        b"input: line 6: NoEdge\n",
+    ),
+    (
         Status::Limit {
             kind: LimitKind::Lines,
             at: 4_000_000_001,
         },
         5,
         b"limit: Lines 4000000001\n",
+    ),
+    (
+        Status::Limit {
+            kind: LimitKind::Labels,
+            at: 6,
+        },
+        5,
+        b"limit: Labels 6\n",
+    ),
+    (
+        Status::Limit {
+            kind: LimitKind::LineBytes,
+            at: 6,
+        },
+        5,
+        b"limit: LineBytes 6\n",
     ),
     (Status::ReadFault, 6, b"read fault\n"),
     (Status::WriteFault, 7, b"write fault\n"),

@@ -1,1 +1,4 @@
+pub mod Names
+pub mod Interning
 pub mod Grammar
+pub mod Reading

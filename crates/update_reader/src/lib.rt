@@ -1,138 +1,217 @@
-//! Update lines: what each says, or that it is no update.
+//! Update lines: what each says, and the numbers of the labels that they name.
 #![tactic(auto)]
 
-ghost use Rattle.std.specs.Prelude.{◌≡◌, length};
+ghost use Rattle.std.specs.Prelude.{◌≡◌, ◌<◌, ℕ, List, [], ◌∷◌, Some, length, slice_get};
 ghost use Rattle.job_io.specs.Fields.{words_of};
-ghost use Rattle.update_reader.specs.Grammar.{Reads, update_said};
+ghost use Rattle.update_reader.specs.Grammar.{form_with, ids_of};
+ghost use Rattle.update_reader.specs.Reading.{Reads, ReadsForm, ReadsLabel, ReadsVertex, ReadsEdge};
 
-use graph_types::{LabelId, Update};
-use job_io::{read_id, word, words};
+mod keyword;
+mod names;
+#[cfg(test)]
+mod tests;
+
+use graph_types::{LabelId, Update, VertexId};
+use job_io::{is_label, is_nothing, read_id, word, words};
+use keyword::{Keyword, read_keyword};
+use names::NO_NAME;
+pub use names::{NameFault, Names};
+use std::alloc::Global;
 
 /// What a line says.
 #[derive(Clone, Copy, Debug, PartialEq, Eq)]
 pub enum Item {
+    /// The line is blank or a comment.
+    Nothing,
     Update(Update),
+    /// The updates so far are to be mined together.
+    Commit,
 }
 
-/// Why a line says nothing.
+/// Why a line says nothing that counts.
 #[derive(Clone, Copy, Debug, PartialEq, Eq)]
 pub enum UpdateFault {
-    /// The line is in none of the forms of an update.
+    /// The line is in none of the forms.
     BadLine,
+    /// The label of the update is new, and there is no room for its name.
+    TooManyLabels,
+    /// An allocation was refused.
+    NoMemory,
 }
 
-/// The label of what is added without one.
-const NO_LABEL: LabelId = LabelId(0);
-
-/// Reads a line whose CR was dropped, in a few passes over its bytes. A blank line and a comment are
-/// bad lines too: callers pass over them first. Takes no memory.
-pub fn read_line(line: &[u8]) -> Result<Item, UpdateFault>
-    ensures { Reads line.now result }
+/// Reads a line whose CR was dropped, in at most seven passes over its bytes. The label of an update gets
+/// its number once the whole line is found to be in form, and takes memory only where its name is new. A
+/// refused line leaves the names as they were.
+pub fn read_line(alloc: Global, line: &[u8], names: &mut Names) -> Result<Item, UpdateFault>
+    ensures { Reads names.old line.now result names.new }
 {
-    let update = match words(line) {
-        2 => read_vertex(line),
-        3 => read_edge(line),
-        _ => None,
+    if is_nothing(line) {
+        return Ok(Item::Nothing);
+    }
+    let Some(first) = word(line, 0) else {
+        return Err(UpdateFault::BadLine);
     };
-    update.map(Item::Update).ok_or(UpdateFault::BadLine)
+    let Some(keyword) = read_keyword(first) else {
+        return Err(UpdateFault::BadLine);
+    };
+    match words(line) {
+        1 => read_alone(keyword),
+        2 => read_two(alloc, keyword, word_at(line, 1), names),
+        3 => read_three(alloc, keyword, word_at(line, 1), word_at(line, 2), names),
+        4 => read_four(
+            alloc,
+            keyword,
+            word_at(line, 1),
+            word_at(line, 2),
+            word_at(line, 3),
+            names,
+        ),
+        _ => Err(UpdateFault::BadLine),
+    }
 }
 
-/// `+v ID`
-fn read_vertex(line: &[u8]) -> Option<Update>
-    requires { length (words_of line.now) ≡ 2 }
-    ensures { result ≡ update_said (words_of line.now) }
+fn word_at(line: &[u8], i: usize) -> &[u8]
+    requires { i < length (words_of line.now) }
+    ensures { slice_get (words_of line.now) i ≡ Some result.now }
 {
-    if word(line, 0)? != b"+v".as_slice() {
-        return None;
-    }
-    let id = read_id(word(line, 1)?)?;
-    Some(Update::AddVertex {
-        id,
-        label: NO_LABEL,
-    })
+    word(line, i).unwrap()
 }
 
-/// `+e ID ID`
-fn read_edge(line: &[u8]) -> Option<Update>
-    requires { length (words_of line.now) ≡ 3 }
-    ensures { result ≡ update_said (words_of line.now) }
+// `commit`
+fn read_alone(keyword: Keyword) -> Result<Item, UpdateFault>
+    ensures { (names : List (List ℕ)) → ReadsForm names (form_with keyword []) result names }
 {
-    if word(line, 0)? != b"+e".as_slice() {
-        return None;
+    match keyword {
+        Keyword::Commit => Ok(Item::Commit),
+        _ => Err(UpdateFault::BadLine),
     }
-    let from = read_id(word(line, 1)?)?;
-    let to = read_id(word(line, 2)?)?;
-    Some(Update::AddEdge {
-        from,
-        to,
-        label: NO_LABEL,
-    })
 }
 
-#[cfg(test)]
-mod tests {
-    use super::*;
-    use graph_types::VertexId;
-
-    fn vertex(id: u32) -> Item {
-        Item::Update(Update::AddVertex {
-            id: VertexId(id),
-            label: NO_LABEL,
-        })
-    }
-
-    fn edge(from: u32, to: u32) -> Item {
-        Item::Update(Update::AddEdge {
-            from: VertexId(from),
-            to: VertexId(to),
-            label: NO_LABEL,
-        })
-    }
-
-    #[test]
-    fn reads_updates(rt: HostRuntime) {
-        let table: [(&[u8], Item); 9] = [
-            (b"+v 7", vertex(7)),
-            (b"+v 0000000007", vertex(7)),
-            (b"+v 4294967295", vertex(u32::MAX)),
-            (b"\t+v \t 7 ", vertex(7)),
-            (b"+e 7 3", edge(7, 3)),
-            (b"+e 3 7", edge(3, 7)),
-            (b"+e\t007\t0", edge(7, 0)),
-            (b"+e 5 5", edge(5, 5)),
-            (b" +e 4294967295 1\t", edge(u32::MAX, 1)),
-        ];
-        for (line, item) in table {
-            assert_eq!(rt; read_line(line), Ok(item), "at {line:?}");
+// `+v ID`, `-v ID`
+fn read_two(
+    alloc: Global,
+    keyword: Keyword,
+    id: &[u8],
+    names: &mut Names,
+) -> Result<Item, UpdateFault>
+    ensures { ReadsForm names.old (form_with keyword (id.now ∷ [])) result names.new }
+{
+    match keyword {
+        Keyword::AddVertex => {
+            let (id, label) = read_vertex(alloc, id, NO_NAME, names)?;
+            Ok(Item::Update(Update::AddVertex { id, label }))
         }
-    }
-
-    #[test]
-    fn refuses_other_lines(rt: HostRuntime) {
-        let table: [&[u8]; 20] = [
-            b"",
-            b" \t",
-            b"# c",
-            b"commit",
-            b"+v",
-            b"+v 1 a",
-            b"+v 4294967296",
-            b"+v 00000000007",
-            b"+v -1",
-            b"+v x",
-            b"+v1",
-            b"+V 1",
-            b"-v 1",
-            b"+e 7",
-            b"+e 7 x",
-            b"+e 7 3 1",
-            b"-e 7 3",
-            b"+v 1\r",
-            b"+v \xff",
-            b"\0v 1",
-        ];
-        for line in table {
-            assert_eq!(rt; read_line(line), Err(UpdateFault::BadLine), "at {line:?}");
+        Keyword::RemoveVertex => {
+            let id = read_id(id).ok_or(UpdateFault::BadLine)?;
+            Ok(Item::Update(Update::RemoveVertex { id }))
         }
+        _ => Err(UpdateFault::BadLine),
+    }
+}
+
+// `+v ID LABEL`, `~v ID LABEL`, `+e ID ID`, `-e ID ID`
+fn read_three(
+    alloc: Global,
+    keyword: Keyword,
+    first: &[u8],
+    second: &[u8],
+    names: &mut Names,
+) -> Result<Item, UpdateFault>
+    ensures { ReadsForm names.old (form_with keyword (first.now ∷ second.now ∷ [])) result names.new }
+{
+    match keyword {
+        Keyword::AddVertex => {
+            let (id, label) = read_vertex(alloc, first, second, names)?;
+            Ok(Item::Update(Update::AddVertex { id, label }))
+        }
+        Keyword::LabelVertex => {
+            let (id, label) = read_vertex(alloc, first, second, names)?;
+            Ok(Item::Update(Update::LabelVertex { id, label }))
+        }
+        Keyword::AddEdge => {
+            let (from, to, label) = read_edge(alloc, first, second, NO_NAME, names)?;
+            Ok(Item::Update(Update::AddEdge { from, to, label }))
+        }
+        Keyword::RemoveEdge => {
+            let (from, to) = read_ids(first, second).ok_or(UpdateFault::BadLine)?;
+            Ok(Item::Update(Update::RemoveEdge { from, to }))
+        }
+        _ => Err(UpdateFault::BadLine),
+    }
+}
+
+// `+e ID ID LABEL`, `~e ID ID LABEL`
+fn read_four(
+    alloc: Global,
+    keyword: Keyword,
+    from: &[u8],
+    to: &[u8],
+    label: &[u8],
+    names: &mut Names,
+) -> Result<Item, UpdateFault>
+    ensures { ReadsForm names.old (form_with keyword (from.now ∷ to.now ∷ label.now ∷ [])) result names.new }
+{
+    match keyword {
+        Keyword::AddEdge => {
+            let (from, to, label) = read_edge(alloc, from, to, label, names)?;
+            Ok(Item::Update(Update::AddEdge { from, to, label }))
+        }
+        Keyword::LabelEdge => {
+            let (from, to, label) = read_edge(alloc, from, to, label, names)?;
+            Ok(Item::Update(Update::LabelEdge { from, to, label }))
+        }
+        _ => Err(UpdateFault::BadLine),
+    }
+}
+
+fn read_vertex(
+    alloc: Global,
+    id: &[u8],
+    label: &[u8],
+    names: &mut Names,
+) -> Result<(VertexId, LabelId), UpdateFault>
+    ensures { ReadsVertex names.old id.now label.now result names.new }
+{
+    let id = read_id(id).ok_or(UpdateFault::BadLine)?;
+    let label = read_label(alloc, label, names)?;
+    Ok((id, label))
+}
+
+fn read_edge(
+    alloc: Global,
+    from: &[u8],
+    to: &[u8],
+    label: &[u8],
+    names: &mut Names,
+) -> Result<(VertexId, VertexId, LabelId), UpdateFault>
+    ensures { ReadsEdge names.old from.now to.now label.now result names.new }
+{
+    let (from, to) = read_ids(from, to).ok_or(UpdateFault::BadLine)?;
+    let label = read_label(alloc, label, names)?;
+    Ok((from, to, label))
+}
+
+fn read_ids(from: &[u8], to: &[u8]) -> Option<(VertexId, VertexId)>
+    ensures { result ≡ ids_of from.now to.now }
+{
+    let from = read_id(from)?;
+    let to = read_id(to)?;
+    Some((from, to))
+}
+
+// The number of a label. That of `_`, which most updates have, is not looked up.
+fn read_label(alloc: Global, label: &[u8], names: &mut Names) -> Result<LabelId, UpdateFault>
+    ensures { ReadsLabel names.old label.now result names.new }
+{
+    if label == NO_NAME {
+        return Ok(names.no_label());
+    }
+    if !is_label(label) {
+        return Err(UpdateFault::BadLine);
+    }
+    match names.intern(alloc, label) {
+        Ok(label) => Ok(label),
+        Err(NameFault::TooManyLabels) => Err(UpdateFault::TooManyLabels),
+        Err(NameFault::NoMemory) => Err(UpdateFault::NoMemory),
     }
 }

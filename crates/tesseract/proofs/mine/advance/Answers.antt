@@ -4,8 +4,8 @@ use Rattle.tesseract.proofs.mine.advance.Goals as goal
 
 pub returns-in-Err-TooLong-clause-advances : goal.returns-in-Err-TooLong-clause-advances
 returns-in-Err-TooLong-clause-advances g c =
-    rw c.bad_line.ensures (Nexts-long (stage_of c.args.job.now) c.args.reader.now c.next.new.self _
-    _ c.in-Err-TooLong.line (rw c.in-Err-TooLong.field-0-is at c.in-Err-TooLong.ensures.bytes))
+    Nexts-long (stage_of c.args.job.now) c.args.reader.now c.next.new.self _ _ c.in-Err-TooLong.at
+    (rw c.in-Err-TooLong.field-0-is at c.in-Err-TooLong.ensures.bytes)
 
 pub returns-in-Err-TooMany-clause-advances : goal.returns-in-Err-TooMany-clause-advances
 returns-in-Err-TooMany-clause-advances g c =
