@@ -1,4 +1,5 @@
 pub mod Graph
+pub mod Simple
 pub mod Lists
 pub mod Members
 pub mod Packed

@@ -1,6 +1,7 @@
 ghost use Rattle.std.specs.Prelude.{◌≡◌, IsSome, IfOk, OnOk, OnErr};
 ghost use Rattle.std.specs.FinMap as map;
 ghost use Rattle.graph_types.specs.Graph.{empty_graph, with_vertex, with_edge, without_vertex, without_edge, HasEnds, is_joined, neighbours};
+ghost use Rattle.graph_types.specs.Simple.{IsSimple};
 
 use crate::{Edge, EdgeList, LabelId, NoMemory, VertexId, VertexList};
 use std::alloc::Global;
@@ -15,7 +16,8 @@ pub struct Snapshot {
 }
 
 impl Model for Snapshot {
-    ghost use Rattle.graph_types.specs.Graph.{Graph, EdgesHaveEnds, graph_code, graph_of};
+    ghost use Rattle.graph_types.specs.Graph.{Graph, graph_code, graph_of};
+    ghost use Rattle.graph_types.specs.Simple.{IsSimple};
 
     ghost Value = { Graph };
 
@@ -23,7 +25,7 @@ impl Model for Snapshot {
 
     ghost view = { λ s. graph_of s.labels.entries s.edges.entries };
 
-    ghost invariant = { λ s. EdgesHaveEnds (graph_of s.labels.entries s.edges.entries) };
+    ghost invariant = { λ s. IsSimple (graph_of s.labels.entries s.edges.entries) };
 }
 
 impl Snapshot {
@@ -40,7 +42,8 @@ impl Snapshot {
     /// The label of a vertex, or `None` where it isn't there. Takes time logarithmic in the number of
     /// vertices.
     pub fn label(&self, v: VertexId) -> Option<LabelId>
-        ensures { result ≡ map.get self.now.labels v }
+        ensures label { result ≡ map.get self.now.labels v }
+        ensures simple { IsSimple self.now }
     {
         self.labels.get(&v).copied()
     }
@@ -69,6 +72,7 @@ impl Snapshot {
         ensures ok { OnOk result (self.new ≡ with_edge self.old e l) }
         ensures err { OnErr result (self.new ≡ self.old) }
     {
+        let _ = e.a();
         self.edges.insert(e, l)?;
         Ok(())
     }
@@ -154,6 +158,8 @@ mod tests {
         assert_eq!(rt; vertices.as_slice(), [VertexId(1), VertexId(2)].as_slice());
         let edges = snapshot.edges(rt.alloc())?;
         assert_eq!(rt; edges.as_slice(), [edge].as_slice());
+        let near = snapshot.near(rt.alloc(), VertexId(1))?;
+        assert_eq!(rt; near.as_slice(), [VertexId(2)].as_slice());
         Ok(())
     }
 

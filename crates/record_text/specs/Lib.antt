@@ -1,1 +1,2 @@
-pub use Rattle.mining_model.specs.Text
+pub mod Grammar
+pub mod Writable

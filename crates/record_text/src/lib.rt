@@ -1,10 +1,13 @@
 //! Records, as text: what an update took away and brought, a line each, and the line that closes a
-//! timestamp.
+//! timestamp. They are written and read back.
 #![tactic(auto)]
 
+pub mod laws;
 mod line;
+mod read;
 #[cfg(test)]
 mod tests;
 mod write;
 
+pub use read::{BadRecord, RecordLine, read_record};
 pub use write::{write_delta, write_done};

@@ -7,7 +7,7 @@ use Rattle.graph_types.specs.Piece.{members_of_all}
 use Rattle.graph_types.specs.declared.update.Update.{Update}
 use Rattle.job_io.specs.Lines.{most_line_bytes}
 use Rattle.mining_model.specs.Step.{step}
-use Rattle.mining_model.specs.Embeddings.{every_piece}
+use Rattle.cond_eval.specs.Patterns.{pattern_of}
 use Rattle.mining_model.specs.Changes.{gone}
 use Rattle.mining_model.specs.Text.{delta_text, done_text}
 use Rattle.update_reader.specs.Names.{Names}
@@ -38,9 +38,9 @@ IsTaken-from n names later m new text u changes said_is made = record {
   later = later;
   now = new.graph;
   accepted_is =
-      ap (judged_said n (every_piece m.size) names m.graph) said_is
-      ∙ ap (judged_step n (every_piece m.size) later u) made.stepped;
-  stage_is = ap (λ size. streaming (every_piece size) later new.graph) made.same_size;
+      ap (judged_said n (pattern_of m.program) names m.graph) said_is
+      ∙ ap (judged_step n (pattern_of m.program) later u) made.stepped;
+  stage_is = ap (λ program. streaming (pattern_of program) later new.graph) made.same_program;
   stamp_is = made.next_stamp;
   rem = made.rem;
   add = made.add;
@@ -53,8 +53,8 @@ pub Takes-unmade : (n : ℕ) (names later : Names) (m : Mining) (text : List ℕ
 Takes-unmade n names later m text u fault stop.NoMemory said_is reason stops = tt
 Takes-unmade n names later m text u fault (stop.Refused why) said_is reason stops =
     let told = stops (step m.graph u) reason in
-    ap (judged_said n (every_piece m.size) names m.graph) said_is
-    ∙ ap (judged_step n (every_piece m.size) later u) told.stepped_is
+    ap (judged_said n (pattern_of m.program) names m.graph) said_is
+    ∙ ap (judged_step n (pattern_of m.program) later u) told.stepped_is
     ∙ ap refused (sym told.why_is)
 
 -- a line that is not one too many is judged by its length
@@ -113,7 +113,7 @@ pub Takes-accepts : (most n : ℕ) (old new : Job) (line : List ℕ) (changes : 
     ++ done_text (stamp_of new))
 Takes-accepts most n (Heading next) new line changes short taken = absurd taken
 Takes-accepts most n (Streaming names m) new line changes short taken = record {
-  pattern = every_piece m.size;
+  pattern = pattern_of m.program;
   names = names;
   later = taken.later;
   before = m.graph;
@@ -128,7 +128,7 @@ Takes-accepts most n (Streaming names m) new line changes short taken = record {
       ++ done_text t) taken.stamp_is
       ∙ ap (λ rem. delta_text (suc m.stamp) rem (members_of_all changes.add)
       ++ done_text (suc m.stamp)) taken.rem
-      ∙ ap (λ add. delta_text (suc m.stamp) (gone (every_piece m.size) m.graph taken.now) add
+      ∙ ap (λ add. delta_text (suc m.stamp) (gone (pattern_of m.program) m.graph taken.now) add
       ++ done_text (suc m.stamp)) taken.add;
 }
 

@@ -6,7 +6,7 @@ use Rattle.graph_types.specs.declared.update.Update.{Update}
 use Rattle.job_io.specs.Lines.{without_cr}
 use Rattle.job_io.specs.Fields.{words_of}
 use Rattle.mining_model.specs.Step.{Refusal}
-use Rattle.mining_model.specs.Embeddings.{every_piece}
+use Rattle.cond_eval.specs.Patterns.{pattern_of}
 use Rattle.mining_model.specs.Changes.{gone, come}
 use Rattle.mining_model.specs.Text.{delta_text, done_text}
 use Rattle.update_reader.specs.Names.{Names}
@@ -29,7 +29,7 @@ use Rattle.tesseract.specs.Job.{refused, moved, accepted}
 -- where the reading of a job stands
 abbrev pub stage_of : Job → Stage
 stage_of (Heading next) = heading next
-stage_of (Streaming names m) = streaming (every_piece m.size) names m.graph
+stage_of (Streaming names m) = streaming (pattern_of m.program) names m.graph
 
 -- its last timestamp, or 0
 abbrev pub stamp_of : Job → ℕ
@@ -55,22 +55,22 @@ pub record IsTaken (n : ℕ) (names : Names) (m : Mining) (text : List ℕ) (job
   pub later : Names
   pub now : Graph
   pub accepted_is :
-      judged_said n (every_piece m.size) names m.graph (said names text)
-      ≡ accepted update (every_piece m.size) later now
-  pub stage_is : stage_of job ≡ streaming (every_piece m.size) later now
+      judged_said n (pattern_of m.program) names m.graph (said names text)
+      ≡ accepted update (pattern_of m.program) later now
+  pub stage_is : stage_of job ≡ streaming (pattern_of m.program) later now
   pub stamp_is : stamp_of job ≡ suc m.stamp
-  pub rem : members_of_all changes.rem ≡ gone (every_piece m.size) m.graph now
-  pub add : members_of_all changes.add ≡ come (every_piece m.size) m.graph now
+  pub rem : members_of_all changes.rem ≡ gone (pattern_of m.program) m.graph now
+  pub add : members_of_all changes.add ≡ come (pattern_of m.program) m.graph now
 
 -- Line n of a stream says nothing, or leads to a job with changes, or is refused.
 abbrev pub TakesUpdate : ℕ → Names → Mining → List ℕ → Result (Job × Option Changes) Stop → Type 0
 TakesUpdate n names m text (Ok (job, None)) =
-    (judged_said n (every_piece m.size) names m.graph (said names text) ≡ moved (stage_of job))
+    (judged_said n (pattern_of m.program) names m.graph (said names text) ≡ moved (stage_of job))
     × (stamp_of job ≡ m.stamp)
 TakesUpdate n names m text (Ok (job, Some changes)) = IsTaken n names m text job changes
 TakesUpdate n names m text (Err stop.NoMemory) = Unit {0}
 TakesUpdate n names m text (Err (stop.Refused why)) =
-    judged_said n (every_piece m.size) names m.graph (said names text) ≡ refused why
+    judged_said n (pattern_of m.program) names m.graph (said names text) ≡ refused why
 
 -- Line n of a header leads on, or is refused.
 abbrev pub TakesHeader : ℕ → Awaited → List ℕ → Result (Job × Option Changes) Stop → Type 0

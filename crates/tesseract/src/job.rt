@@ -3,6 +3,7 @@ ghost use Rattle.tesseract.specs.Job.{ended, end_of};
 ghost use Rattle.tesseract.specs.Reading.{stage_of, stamp_of, StopsFor};
 ghost use Rattle.tesseract.specs.Reading.{Takes, TakesHeader, TakesUpdate};
 
+use crate::every_piece::every_piece;
 use crate::header::{Awaited, HeaderStep};
 use crate::miner::{Changes, Miner};
 use crate::status::{InputKind, LimitKind, ProgramKind, Status};
@@ -89,7 +90,10 @@ fn take_header(
     match awaited.take(text) {
         Some(HeaderStep::More(next)) => Ok((Job::Heading(next), None)),
         Some(HeaderStep::Ready { size }) => match Names::new(alloc) {
-            Ok(names) => Ok((Job::Streaming(names, Miner::new(alloc, size)), None)),
+            Ok(names) => {
+                let miner = Miner::new(alloc, every_piece(size));
+                Ok((Job::Streaming(names, miner), None))
+            }
             Err(NoMemory) => Err(Stop::NoMemory),
         },
         None => Err(Stop::Refused(Status::BadProgram {

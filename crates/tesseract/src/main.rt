@@ -2,6 +2,7 @@
 //! input, and writes what each update takes away and brings to standard output.
 #![tactic(auto)]
 
+mod every_piece;
 mod header;
 mod job;
 mod mine;

@@ -2,33 +2,34 @@ ghost use Rattle.std.specs.Prelude.{◌≡◌, ◌+◌, ◌<◌, ◌^◌};
 ghost use Rattle.graph_types.specs.Graph.{empty_graph};
 ghost use Rattle.tesseract.specs.Miner.{Makes};
 
-use crate::size::Size;
+use filter_polarity::Program;
 use graph_types::{PieceList, Snapshot, Stamp, Update};
 use plain_miner::{embeddings, without};
 use std::alloc::Global;
 use std::marker::Model;
 use update_rules::{StepFault, step};
 
-/// A graph that changes, and the connected pieces of up to `size` vertices that it has now.
-/// Contracts see the size, the graph and the last timestamp.
+/// A graph that changes, and the pieces that a program finds in it now. Contracts see the program, the
+/// graph and the last timestamp.
 #[derive(Drop)]
 pub struct Miner {
-    size: usize,
+    program: Program,
     graph: Snapshot,
     standing: PieceList,
     stamp: Stamp,
 }
 
 impl Model for Miner {
+    ghost use Rattle.filter_polarity.specs.contracts.program.Program as programs;
     ghost use Rattle.tesseract.specs.Mining.{Mining, mining_code, IsMining};
 
     ghost Value = { Mining };
 
-    ghost coded = { mining_code };
+    ghost coded = { mining_code programs.the_row.coded };
 
-    ghost view = { λ m. record { size = m.size; graph = m.graph; stamp = m.stamp } };
+    ghost view = { λ m. record { program = m.program; graph = m.graph; stamp = m.stamp } };
 
-    ghost invariant = { λ m. IsMining m.size m.graph m.standing };
+    ghost invariant = { λ m. IsMining m.program m.graph m.standing };
 }
 
 /// What an update took away and what it brought, both ascending.
@@ -40,11 +41,11 @@ pub struct Changes {
 
 impl Miner {
     /// Before the first update.
-    pub fn new(alloc: Global, size: Size) -> Miner
-        ensures { result ≡ record { size = size; graph = empty_graph; stamp = 0 } }
+    pub fn new(alloc: Global, program: Program) -> Miner
+        ensures { result ≡ record { program = program; graph = empty_graph; stamp = 0 } }
     {
         Miner {
-            size: size.members(),
+            program,
             graph: Snapshot::new(alloc),
             standing: PieceList::new(alloc),
             stamp: Stamp(0),
@@ -64,19 +65,19 @@ impl Miner {
         ensures { Makes self update.now result }
     {
         let Miner {
-            size,
+            program,
             mut graph,
             standing: before,
             stamp,
         } = self;
         step(&mut graph, update)?;
-        let standing = embeddings(alloc, size, &graph)?;
+        let standing = embeddings(alloc, &program, &graph)?;
         let changes = Changes {
             rem: without(alloc, before.as_slice(), standing.as_slice())?,
             add: without(alloc, standing.as_slice(), before.as_slice())?,
         };
         let miner = Miner {
-            size,
+            program,
             graph,
             standing,
             stamp: Stamp(stamp.0 + 1),

@@ -16,7 +16,7 @@ impl Model for Size {
 
     ghost view = { λ s. s.members };
 
-    ghost invariant = { λ s. s.members ≤ 8 };
+    ghost invariant = { λ s. (1 ≤ s.members) × (s.members ≤ 8) };
 }
 
 impl Size {
@@ -33,10 +33,11 @@ impl Size {
     }
 
     /// The number.
-    pub fn members(self) -> usize
+    pub fn members(self) -> u8
         ensures number { result ≡ self }
+        ensures some { 1 ≤ result }
         ensures most { result ≤ 8 }
     {
-        usize::from(self.members)
+        self.members
     }
 }

@@ -11,4 +11,4 @@ returns-clause-label c =
 pub returns-clause-ends : goal.returns-clause-ends
 returns-clause-ends c =
     let label : c.copied.result ≡ map.get c.args.self.now.edges c.args.e = returns-clause-label c in
-    rw (label, ← c.self.view_is) (c.self.invariant c.args.e)
+    rw (label, ← c.self.view_is) (c.self.invariant.ends c.args.e)

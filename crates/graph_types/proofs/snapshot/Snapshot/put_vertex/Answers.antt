@@ -1,12 +1,14 @@
 use Rattle.std.proofs.Common.{ap, sym, subst, ◌∙◌}
-use Rattle.graph_types.specs.Graph.{EdgesHaveEnds, with_vertex}
-use Rattle.graph_types.proofs.Graph.{graph_of-insert_label, EdgesHaveEnds-with_vertex}
+use Rattle.graph_types.specs.Graph.{with_vertex}
+use Rattle.graph_types.specs.Simple.{IsSimple}
+use Rattle.graph_types.proofs.Graph.{graph_of-insert_label}
+use Rattle.graph_types.proofs.Simple.{IsSimple-with_vertex}
 use Rattle.graph_types.proofs.snapshot.Snapshot.put_vertex.Goals as goal
 
 pub invariant_of-self-2 : goal.invariant_of-self-2
 invariant_of-self-2 c =
     rw c.in_ok-insert.ensures.entries
-    (subst EdgesHaveEnds (sym (graph_of-insert_label _ _ _ _)) (EdgesHaveEnds-with_vertex _ _ _ c.self.invariant))
+    (subst IsSimple (sym (graph_of-insert_label _ _ _ _)) (IsSimple-with_vertex _ _ _ c.self.invariant))
 
 pub returns-clause-ok : goal.returns-clause-ok
 returns-clause-ok c =

@@ -1,0 +1,5 @@
+pub mod AnyOrder
+pub mod Steps
+pub mod Drawn
+pub mod Counts
+pub mod Sums

@@ -1,0 +1,99 @@
+ghost use Rattle.std.specs.Prelude.{◌≡◌, ◌≤◌};
+ghost use Rattle.graph_types.specs.Piece.{most_members};
+ghost use Rattle.filter_polarity.specs.Program.{IsProgram};
+ghost use Rattle.filter_polarity.specs.Written.{IsWithinLimits};
+
+use crate::condition::Cond;
+use crate::falling_cond::Falling;
+use graph_types::Mode;
+use std::marker::Model;
+
+/// What to mine: pieces of one mode, up to a size, with a filter that every picture on the way has to pass
+/// and a condition that the pieces to be told have to match.
+#[derive(Debug, Drop)]
+pub struct Program {
+    size: u8,
+    filter: Falling,
+    matching: Cond,
+}
+
+impl Model for Program {
+    ghost use Rattle.std.specs.Coded.{codes};
+    ghost use Rattle.filter_polarity.specs.contracts.condition.Cond as conditions;
+    ghost use Rattle.filter_polarity.specs.Program.{ProgramValue, IsProgram};
+
+    ghost Value = { ProgramValue };
+
+    ghost coded = { Prim.hlevel (codes, conditions.the_row.coded) };
+
+    ghost view = { λ p. record {
+      mode = p.filter.mode;
+      size = p.size;
+      filter = p.filter.cond;
+      matching = p.matching;
+    } };
+
+    ghost invariant = { λ p. IsProgram (record {
+      mode = p.filter.mode;
+      size = p.size;
+      filter = p.filter.cond;
+      matching = p.matching;
+    }) };
+}
+
+impl Program {
+    /// The program that mines in the filter's mode. `size` counts members.
+    pub fn new(size: u8, filter: Falling, matching: Cond) -> Program
+        requires some_member { 1 ≤ size }
+        requires few_members { size ≤ most_members }
+        requires filter_within { IsWithinLimits filter.cond }
+        requires matching_within { IsWithinLimits matching }
+        ensures { result ≡ record {
+          mode = filter.mode;
+          size = size;
+          filter = filter.cond;
+          matching = matching;
+        } }
+    {
+        // By this call the filter tells that it falls.
+        let _ = filter.cond();
+        Program {
+            size,
+            filter,
+            matching,
+        }
+    }
+
+    /// What its pieces are made of.
+    pub fn mode(&self) -> Mode
+        ensures mode { result ≡ self.now.mode }
+        ensures program { IsProgram self.now }
+    {
+        let _ = &self.size;
+        self.filter.mode()
+    }
+
+    /// The most members of a piece.
+    pub fn size(&self) -> u8
+        ensures size { result ≡ self.now.size }
+        ensures program { IsProgram self.now }
+    {
+        self.size
+    }
+
+    /// The condition that has to hold of every picture on the way to a piece.
+    pub fn filter(&self) -> &Falling
+        ensures filter { result.now ≡ record { mode = self.now.mode; cond = self.now.filter } }
+        ensures program { IsProgram self.now }
+    {
+        &self.filter
+    }
+
+    /// The condition that has to hold of a piece that is told.
+    pub fn matching(&self) -> &Cond
+        ensures matching { result.now ≡ self.now.matching }
+        ensures program { IsProgram self.now }
+    {
+        &self.matching
+    }
+}

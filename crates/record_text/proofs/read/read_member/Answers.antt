@@ -1,0 +1,10 @@
+use Rattle.std.proofs.Common.{sym, ap, ◌∙◌}
+use Rattle.record_text.specs.Grammar.{member_of_parts}
+use Rattle.record_text.proofs.Words.{member_of_parts-more}
+use Rattle.record_text.proofs.read.read_member.Goals as goal
+
+pub returns-in-Some : goal.returns-in-Some
+returns-in-Some c =
+    c.read_edge.ensures
+    ∙ sym (member_of_parts-more c.in-Some.low.now c.in-Some.high.now)
+    ∙ ap member_of_parts (sym c.in-Some.ensures)

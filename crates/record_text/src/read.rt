@@ -1,0 +1,151 @@
+ghost use Rattle.std.specs.Prelude.{◌≡◌, ◌∷◌, [], IsTrue, MatchOption, MatchResult, Some, SomeIff, position};
+ghost use Rattle.std.specs.List.{slice_split};
+ghost use Rattle.graph_types.specs.Piece.{CanJoin, joined, member_lt, mode_of};
+ghost use Rattle.job_io.specs.Fields.{words_of};
+ghost use Rattle.record_text.specs.Grammar.{edge_said, is_dash, member_of, piece_said, record_of, record_said};
+
+use graph_types::{Edge, Member, Mode, Piece, Stamp};
+use job_io::{is_nothing, read_id, read_number, rest, word};
+
+/// What a line of a text of records says.
+#[derive(Clone, Copy, Debug, PartialEq, Eq)]
+pub enum RecordLine {
+    /// The line is blank or a comment.
+    Nothing,
+    /// The piece went at this timestamp.
+    Rem { stamp: Stamp, piece: Piece },
+    /// The piece came at this timestamp.
+    Add { stamp: Stamp, piece: Piece },
+    /// The records of this timestamp are complete.
+    Done { stamp: Stamp },
+}
+
+/// The line is in none of the forms of a record.
+#[derive(Clone, Copy, Debug, PartialEq, Eq)]
+pub struct BadRecord;
+
+/// The most digits of a timestamp.
+const STAMP_DIGITS: usize = 20;
+
+/// Reads a line whose CR was dropped, in time linear in its bytes. Takes no memory.
+pub fn read_record(line: &[u8]) -> Result<RecordLine, BadRecord>
+    ensures { MatchResult result
+        (λ said. record_of line.now ≡ Some said)
+        (λ _. record_of line.now ≡ None) }
+{
+    if is_nothing(line) {
+        return Ok(RecordLine::Nothing);
+    }
+    read_words(line).ok_or(BadRecord)
+}
+
+/// Reads a line that has a word and is no comment.
+fn read_words(line: &[u8]) -> Option<RecordLine>
+    ensures { result ≡ record_said (words_of line.now) }
+{
+    let (kind, behind) = split_word(line)?;
+    let (number, members) = split_word(behind)?;
+    let stamp = Stamp(read_number(number, STAMP_DIGITS)?);
+    if kind == b"DONE".as_slice() {
+        return match split_word(members) {
+            None => Some(RecordLine::Done { stamp }),
+            Some(_) => None,
+        };
+    }
+    let piece = read_piece(members)?;
+    if kind == b"REM".as_slice() {
+        Some(RecordLine::Rem { stamp, piece })
+    } else if kind == b"NEW".as_slice() {
+        Some(RecordLine::Add { stamp, piece })
+    } else {
+        None
+    }
+}
+
+/// Reads members that make a piece. It stops at the first word that belongs to none.
+fn read_piece(line: &[u8]) -> Option<Piece>
+    ensures { result ≡ piece_said (words_of line.now) }
+{
+    let (first, mut behind) = split_word(line)?;
+    let mut last = read_member(first)?;
+    let mut piece = piece_of(last)?;
+    while let Some((word, rest)) = split_word(behind) {
+        let member = read_member(word)?;
+        piece = with_next(&piece, &last, &member)?;
+        last = member;
+        behind = rest;
+    }
+    Some(piece)
+}
+
+/// The piece of one member.
+fn piece_of(member: Member) -> Option<Piece>
+    ensures { result ≡ Some (record { mode = mode_of member; members = member ∷ [] }) }
+{
+    let mode = match member {
+        Member::Vertex(_) => Mode::Vertex,
+        Member::Edge(_) => Mode::Edge,
+    };
+    Piece::empty(mode).with(member)
+}
+
+/// The piece with a member above its last one.
+fn with_next(piece: &Piece, last: &Member, member: &Member) -> Option<Piece>
+    ensures { SomeIff result (IsTrue (member_lt last.now member.now) × CanJoin piece.now member.now)
+        (joined piece.now member.now) }
+{
+    if *last < *member {
+        piece.with(*member)
+    } else {
+        None
+    }
+}
+
+/// Reads `ID`, or `ID-ID` with the first below the second.
+fn read_member(word: &[u8]) -> Option<Member>
+    ensures { result ≡ member_of word.now }
+{
+    match split_at_dash(word) {
+        None => read_id(word).map(Member::Vertex),
+        Some((low, high)) => read_edge(low, high),
+    }
+}
+
+/// The edge whose ends these words say, the lower one first.
+fn read_edge(low: &[u8], high: &[u8]) -> Option<Member>
+    ensures { result ≡ edge_said low.now high.now }
+{
+    let low = read_id(low)?;
+    let high = read_id(high)?;
+    if low < high {
+        Edge::of(low, high).map(Member::Edge)
+    } else {
+        None
+    }
+}
+
+/// What stands before the first dash of a word, and behind it.
+fn split_at_dash(word: &[u8]) -> Option<(&[u8], &[u8])>
+    ensures { MatchOption result
+        (slice_split is_dash word.now ≡ word.now ∷ [])
+        (λ parts. slice_split is_dash word.now ≡ parts.0.now ∷ slice_split is_dash parts.1.now) }
+{
+    let dash = dash_place(word)?;
+    Some((&word[..dash], &word[dash + 1..]))
+}
+
+fn dash_place(word: &[u8]) -> Option<usize>
+    ensures { result ≡ position is_dash word.now }
+{
+    word.iter().position(|b| *b == b'-')
+}
+
+/// The first word of a line, and what stands behind it.
+fn split_word(line: &[u8]) -> Option<(&[u8], &[u8])>
+    ensures { MatchOption result
+        (words_of line.now ≡ [])
+        (λ parts. words_of line.now ≡ parts.0.now ∷ words_of parts.1.now) }
+{
+    let first = word(line, 0)?;
+    Some((first, rest(line, 1)))
+}

@@ -1,0 +1,10 @@
+pub mod Ascending
+pub mod Changes
+pub mod Each
+pub mod Embedded
+pub mod Lasts
+pub mod Snapshots
+pub mod Steps
+pub mod Telling
+pub mod Undone
+pub mod Worked

@@ -1,0 +1,17 @@
+use Rattle.std.proofs.Common.{sym, ap, ◌∙◌, if◌then◌else◌}
+use Rattle.std.specs.Prelude.{Ok, Err}
+use Rattle.snapshot_fold.specs.declared.fault.FoldFault.TheVariants.{OutOfOrder}
+use Rattle.snapshot_fold.specs.Taking.{after_done}
+use Rattle.snapshot_fold.proofs.Steps.{IsOpen-done, seen, after_done_is}
+use Rattle.snapshot_fold.proofs.fold.Fold.take_done.Goals as goal
+
+pub invariant_of-self : goal.invariant_of-self
+invariant_of-self c = rw (c.new.ensures, c.new-2.ensures) (IsOpen-done _ _ _ c.self.invariant)
+
+pub returns-clause-ok : goal.returns-clause-ok
+returns-clause-ok c =
+    let s = c.args.self.now in
+    ap (λ b. if b then Ok (after_done s c.args.stamp) else Err OutOfOrder) (sym c.is_open.ensures ∙ c.if-not-is_open.false)
+    ∙ ap Ok
+    (sym (after_done_is s c.self.inside.mode c.self.inside.done c.self.inside.pieces.keys c.self.inside.went c.self.inside.came c.self.view_is c.self.invariant c.args.stamp)
+    ∙ (λ i. seen c.self.inside.mode c.args.stamp c.self.inside.pieces.keys (sym c.new.ensures i) (sym c.new-2.ensures i)))

@@ -1,0 +1,230 @@
+ghost use Rattle.std.specs.Prelude.{◌≡◌, true, false, not, IsTrue, Ok, Err, IfErr, IfOk, OnErr, OnOk, None, if◌then◌else◌};
+ghost use Rattle.std.specs.Option.{is_none};
+ghost use Rattle.snapshot_fold.specs.FoldState.{start};
+ghost use Rattle.snapshot_fold.specs.Pieces.{is_above, is_among, last_of};
+ghost use Rattle.snapshot_fold.specs.Taking.{IsRefusal, after_new, comes_in_order, goes_in_order, after_rem, is_of_other_mode, is_open, taken};
+ghost use Rattle.snapshot_fold.specs.declared.fault.FoldFault.TheVariants.{AddsPresent, RemovesAbsent};
+ghost use Rattle.record_text.specs.declared.read.RecordLine.TheVariants.{Rem, Add, Done};
+
+use crate::FoldFault;
+use crate::listing::{is_above, put_back};
+use graph_types::{Mode, NoMemory, Piece, PieceList, Stamp};
+use record_text::RecordLine;
+use std::alloc::Global;
+use std::collections::BTreeSet;
+use std::marker::Model;
+
+/// A text of records that is read record by record. It holds the pieces that are there, and what the
+/// open timestamp has changed; of the records before it keeps nothing.
+#[derive(Debug, Drop)]
+pub struct Fold {
+    alloc: Global,
+    mode: Option<Mode>,
+    done: Stamp,
+    pieces: BTreeSet<Piece>,
+    went: PieceList,
+    came: PieceList,
+}
+
+impl Model for Fold {
+    ghost use Rattle.snapshot_fold.specs.FoldState.{FoldState};
+    ghost use Rattle.snapshot_fold.specs.Pieces.{last_of};
+    ghost use Rattle.snapshot_fold.specs.Undone.{IsOpen, undone};
+
+    ghost Value = { FoldState };
+
+    ghost view = { λ f. record {
+      mode = f.mode;
+      done = f.done;
+      settled = undone f.pieces.keys f.went f.came;
+      held = f.pieces.keys;
+      last_rem = last_of f.went;
+      last_new = last_of f.came;
+    } };
+
+    ghost invariant = { λ f. IsOpen f.pieces.keys f.went f.came };
+}
+
+impl Fold {
+    /// Before the first record. It takes its memory from `alloc`, and none yet.
+    pub fn new(alloc: Global) -> Fold
+        ensures { result ≡ start }
+    {
+        Fold {
+            alloc,
+            mode: None,
+            done: Stamp(0),
+            pieces: BTreeSet::new(alloc),
+            went: PieceList::new(alloc),
+            came: PieceList::new(alloc),
+        }
+    }
+
+    /// Takes the next record, in time logarithmic in the number of pieces that are held. A line that
+    /// says nothing changes nothing.
+    pub fn take(&mut self, line: &RecordLine) -> Result<(), FoldFault>
+        ensures ok { OnOk result (taken self.old line.now ≡ Ok self.new) }
+        ensures refused { IfErr result (IsRefusal (taken self.old line.now)) }
+        ensures unchanged { OnErr result (self.new ≡ self.old) }
+    {
+        match line {
+            RecordLine::Nothing => Ok(()),
+            RecordLine::Rem { stamp, piece } => self.take_rem(*stamp, piece),
+            RecordLine::Add { stamp, piece } => self.take_add(*stamp, piece),
+            RecordLine::Done { stamp } => self.take_done(*stamp),
+        }
+    }
+
+    /// The last timestamp that is done, or 0.
+    pub fn done(&self) -> Stamp
+        ensures { result ≡ self.now.done }
+    {
+        self.done
+    }
+
+    /// The pieces at the last timestamp that is done, ascending, in a new list. Takes time linear in the
+    /// number of pieces that are held.
+    pub fn listing(&self, alloc: Global) -> Result<PieceList, NoMemory>
+        ensures { IfOk result (λ pieces. pieces ≡ self.now.settled) }
+    {
+        put_back(
+            alloc,
+            &self.pieces,
+            self.went.as_slice(),
+            self.came.as_slice(),
+        )
+    }
+
+    fn take_rem(&mut self, stamp: Stamp, piece: &Piece) -> Result<(), FoldFault>
+        ensures ok { OnOk result (taken self.old (Rem stamp piece.now) ≡ Ok self.new) }
+        ensures refused { IfErr result (IsRefusal (taken self.old (Rem stamp piece.now))) }
+        ensures unchanged { OnErr result (self.new ≡ self.old) }
+    {
+        if self.is_of_other_mode(piece) {
+            return Err(FoldFault::MixedModes);
+        }
+        if !self.goes_in_order(stamp, piece) {
+            return Err(FoldFault::OutOfOrder);
+        }
+        self.take_out(piece)
+    }
+
+    fn take_add(&mut self, stamp: Stamp, piece: &Piece) -> Result<(), FoldFault>
+        ensures ok { OnOk result (taken self.old (Add stamp piece.now) ≡ Ok self.new) }
+        ensures refused { IfErr result (IsRefusal (taken self.old (Add stamp piece.now))) }
+        ensures unchanged { OnErr result (self.new ≡ self.old) }
+    {
+        if self.is_of_other_mode(piece) {
+            return Err(FoldFault::MixedModes);
+        }
+        if !self.comes_in_order(stamp, piece) {
+            return Err(FoldFault::OutOfOrder);
+        }
+        self.put_in(piece)
+    }
+
+    fn take_done(&mut self, stamp: Stamp) -> Result<(), FoldFault>
+        ensures ok { OnOk result (taken self.old (Done stamp) ≡ Ok self.new) }
+        ensures refused { IfErr result (IsRefusal (taken self.old (Done stamp))) }
+        ensures unchanged { OnErr result (self.new ≡ self.old) }
+    {
+        if !self.is_open(stamp) {
+            return Err(FoldFault::OutOfOrder);
+        }
+        self.done = stamp;
+        self.went = PieceList::new(self.alloc);
+        self.came = PieceList::new(self.alloc);
+        Ok(())
+    }
+
+    fn is_of_other_mode(&self, piece: &Piece) -> bool
+        ensures { result ≡ is_of_other_mode self.now piece.now }
+    {
+        match self.mode {
+            None => false,
+            Some(mode) => mode != piece.mode(),
+        }
+    }
+
+    fn is_open(&self, stamp: Stamp) -> bool
+        ensures { result ≡ is_open self.now stamp }
+    {
+        self.done.0.checked_add(1) == Some(stamp.0)
+    }
+
+    fn goes_in_order(&self, stamp: Stamp, piece: &Piece) -> bool
+        ensures { result ≡ goes_in_order self.now stamp piece.now }
+    {
+        self.is_open(stamp) && self.nothing_came() && is_above(self.went.as_slice(), piece)
+    }
+
+    /// Whether no piece came at the open timestamp so far.
+    fn nothing_came(&self) -> bool
+        ensures { result ≡ is_none self.now.last_new }
+    {
+        self.came.is_empty()
+    }
+
+    fn comes_in_order(&self, stamp: Stamp, piece: &Piece) -> bool
+        ensures { result ≡ comes_in_order self.now stamp piece.now }
+    {
+        self.is_open(stamp) && is_above(self.came.as_slice(), piece)
+    }
+
+    /// Takes a piece out, if it is there.
+    fn take_out(&mut self, piece: &Piece) -> Result<(), FoldFault>
+        requires first { self.old.last_new ≡ None }
+        requires above { IsTrue (is_above self.old.last_rem piece.now) }
+        ensures ok { OnOk result (IsTrue (is_among self.old.held piece.now)
+            × (self.new ≡ after_rem self.old piece.now)) }
+        ensures refused { IfErr result (IsRefusal (if is_among self.old.held piece.now
+            then Ok (after_rem self.old piece.now) else Err RemovesAbsent)) }
+        ensures unchanged { OnErr result (self.new ≡ self.old) }
+    {
+        if self.went.push(*piece).is_err() {
+            return Err(if self.pieces.contains(piece) {
+                FoldFault::NoMemory
+            } else {
+                FoldFault::RemovesAbsent
+            });
+        }
+        if !self.pieces.remove(piece) {
+            self.went.pop();
+            return Err(FoldFault::RemovesAbsent);
+        }
+        self.mode = Some(piece.mode());
+        Ok(())
+    }
+
+    /// Puts a piece in, if it isn't there.
+    fn put_in(&mut self, piece: &Piece) -> Result<(), FoldFault>
+        requires above { IsTrue (is_above self.old.last_new piece.now) }
+        ensures ok { OnOk result ((is_among self.old.held piece.now ≡ false)
+            × (self.new ≡ after_new self.old piece.now)) }
+        ensures refused { IfErr result (IsRefusal (if is_among self.old.held piece.now
+            then Err AddsPresent else Ok (after_new self.old piece.now))) }
+        ensures unchanged { OnErr result (self.new ≡ self.old) }
+    {
+        if self.came.push(*piece).is_err() {
+            return Err(if self.pieces.contains(piece) {
+                FoldFault::AddsPresent
+            } else {
+                FoldFault::NoMemory
+            });
+        }
+        match self.pieces.insert(*piece) {
+            Ok(true) => {
+                self.mode = Some(piece.mode());
+                Ok(())
+            }
+            Ok(false) => {
+                self.came.pop();
+                Err(FoldFault::AddsPresent)
+            }
+            Err(_) => {
+                self.came.pop();
+                Err(FoldFault::NoMemory)
+            }
+        }
+    }
+}
