@@ -1,7 +1,5 @@
 -- The order of edges, what a new entry does to a graph, and that both ends of each edge stay in it.
-use Rattle.std.proofs.Common.{◌≡◌, ◌≢◌, ◌&&◌, ℕ, Bool, true, false, not, eqb, IsTrue, refl, sym, ap, subst, ◌∙◌, cond, Option, None, Some, List, filter, ◌⊎◌, ⊎_elim, min, max, arith}
-use Rattle.std.specs.BTreeMap.{insert_entry, is_at}
-use Rattle.std.specs.Map.{lookup}
+use Rattle.std.proofs.Common.{◌≡◌, ◌≢◌, ◌&&◌, ℕ, Bool, true, false, not, eqb, IsTrue, refl, sym, ap, subst, ◌∙◌, cond, Option, None, Some, ◌⊎◌, ⊎_elim, min, max, arith}
 use Rattle.std.specs.Option.{is_some}
 use Rattle.std.specs.Ordering.{nat_cmp, eq_by_cmp, is_eq, ordering_then}
 use Rattle.std.specs.Cmp.{IsTotalOrder, nat_cmp_total, tied_itself}
@@ -10,9 +8,8 @@ use Rattle.std.specs.declared.cmp.Ordering.TheVariants.{Less, Equal, Greater}
 use Rattle.std.specs.FinMap as map
 use Rattle.std.proofs.lemmas.Bool.{false≢true, not-true, or_parts}
 use Rattle.std.proofs.lemmas.Bool.Decides.{nat_tests}
-use Rattle.graph_types.specs.Graph.{Graph, has_vertex, has_edge, edge_between, is_joined, EdgesHaveEnds, HasEnds, empty_graph, with_vertex, with_edge, without_vertex, without_edge, ends_at, graph_of, pair_cmp}
+use Rattle.graph_types.specs.Graph.{Graph, has_vertex, has_edge, edge_between, is_joined, EdgesHaveEnds, HasEnds, empty_graph, with_vertex, with_edge, without_vertex, without_edge, ends_at, pair_cmp}
 use Rattle.graph_types.specs.Orders.{pair_cmp_total}
-use Rattle.graph_types.proofs.Views.{insert-seen, remove-seen, retain-seen}
 
 pub pair_cmp-IsAntisymmetric : map.IsAntisymmetric pair_cmp
 pair_cmp-IsAntisymmetric e f tied =
@@ -88,7 +85,7 @@ joined-at g v w e apart is =
     ap (has_edge g) is ∙ ap (λ b. not b && has_edge g (edge_between v w)) (sym differ)
 
 -- a vertex other than the one taken out stays
-has_vertex-without_vertex : (g : Graph) (v w : ℕ) → eqb v w ≡ false → IsTrue (has_vertex g w) → IsTrue (has_vertex (without_vertex g v) w)
+pub has_vertex-without_vertex : (g : Graph) (v w : ℕ) → eqb v w ≡ false → IsTrue (has_vertex g w) → IsTrue (has_vertex (without_vertex g v) w)
 has_vertex-without_vertex g v w apart has =
     let other : eq_by_cmp nat_cmp w v ≡ false = grind (arith, nat_tests) in
     ap is_some (map.get-remove nat_cmp_total g.labels v w) ∙ ap (λ b. is_some (cond b None (map.get g.labels w))) other ∙ has
@@ -103,19 +100,3 @@ EdgesHaveEnds-without_vertex g v ends e has =
       low = has_vertex-without_vertex g v e.0 apart.0 (ends e had.1).low;
       high = has_vertex-without_vertex g v e.1 apart.1 (ends e had.1).high;
     }
-
-module _ (labels : List (ℕ × ℕ)) (edges : List ((ℕ × ℕ) × ℕ)) where
-  pub graph_of-insert_label : (v label : ℕ) → graph_of (insert_entry nat_cmp labels v label) edges ≡ with_vertex (graph_of labels edges) v label
-  graph_of-insert_label v label = ap (λ m. record { labels = m; edges = map.from_entries edges }) (insert-seen nat_cmp_total map.nat_cmp-IsAntisymmetric labels v label)
-
-  pub graph_of-insert_edge : (e : ℕ × ℕ) (label : ℕ) → graph_of labels (insert_entry pair_cmp edges e label) ≡ with_edge (graph_of labels edges) e label
-  graph_of-insert_edge e label = ap (λ m. record { labels = map.from_entries labels; edges = m }) (insert-seen pair_cmp_total pair_cmp-IsAntisymmetric edges e label)
-
-  pub graph_of-remove_edge : (left : List ((ℕ × ℕ) × ℕ)) (e : ℕ × ℕ) → ((f : ℕ × ℕ) → lookup (is_at (pair_cmp f)) left ≡ cond (is_at (pair_cmp e) f) None (lookup (is_at (pair_cmp f)) edges)) → graph_of labels left ≡ without_edge (graph_of labels edges) e
-  graph_of-remove_edge left e is = ap (λ m. record { labels = map.from_entries labels; edges = m }) (remove-seen pair_cmp_total pair_cmp-IsAntisymmetric edges left e is)
-
-  pub graph_of-remove_vertex : (left : List (ℕ × ℕ)) (kept : List ((ℕ × ℕ) × ℕ)) (v : ℕ) → ((w : ℕ) → lookup (is_at (nat_cmp w)) left ≡ cond (is_at (nat_cmp v) w) None (lookup (is_at (nat_cmp w)) labels)) → kept ≡ filter (λ e. not (ends_at v e.0)) edges → graph_of left kept ≡ without_vertex (graph_of labels edges) v
-  graph_of-remove_vertex left kept v is kept_is =
-      let fewer_labels = remove-seen nat_cmp_total map.nat_cmp-IsAntisymmetric labels left v is in
-      let fewer_edges = ap map.from_entries kept_is ∙ retain-seen pair_cmp_total pair_cmp-IsAntisymmetric edges (λ e. not (ends_at v e)) in
-      λ i. record { labels = fewer_labels i; edges = fewer_edges i }

@@ -1,6 +1,11 @@
+pub mod EdgesInOrder
+pub mod FewPairs
 pub mod Graph
-pub mod Simple
+pub mod Listing
 pub mod Lists
 pub mod Members
 pub mod Packed
+pub mod RowChanges
+pub mod Rows
+pub mod Undirected
 pub mod Views

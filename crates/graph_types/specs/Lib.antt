@@ -1,5 +1,8 @@
+pub mod Adjacency
+pub mod Few
 pub mod Graph
-pub mod Simple
+pub mod Kept
 pub mod Orders
+pub mod Simple
 pub mod Piece
 pub mod Slots

@@ -2,11 +2,14 @@
 //! labelled graph.
 #![tactic(auto)]
 
+mod adjacency;
 mod edge;
+mod few;
 mod gate;
 mod ids;
 mod list;
 mod member;
+mod neighbours;
 mod no_memory;
 mod piece;
 mod snapshot;

@@ -88,8 +88,8 @@ pub fn is_label(word: &[u8]) -> bool
     }
 }
 
-// The line from its first byte on that is no blank.
-fn trim_start(line: &[u8]) -> &[u8]
+/// The line from its first byte on that is no blank.
+pub fn trim_start(line: &[u8]) -> &[u8]
     ensures { result.now ≡ trim_start_of line.now }
 {
     let mut rest = line;
@@ -130,7 +130,8 @@ fn is_blank(b: u8) -> bool
     b == b' ' || b == b'\t'
 }
 
-fn is_label_start(b: u8) -> bool
+/// Whether a label may begin with this byte: a letter or `_`.
+pub fn is_label_start(b: u8) -> bool
     ensures { result ≡ starts_label b }
 {
     b.is_ascii_alphabetic() || b == b'_'
@@ -142,7 +143,8 @@ fn all_label_bytes(bytes: &[u8]) -> bool
     bytes.iter().all(|b| is_label_byte(*b))
 }
 
-fn is_label_byte(b: u8) -> bool
+/// Whether a label may have this byte behind its first one: a letter, a digit, `_` or `-`.
+pub fn is_label_byte(b: u8) -> bool
     ensures { result ≡ continues_label b }
 {
     is_label_start(b) || b.is_ascii_digit() || b == b'-'

@@ -13,9 +13,12 @@ mod short_line;
 mod standard;
 
 pub use ends::{Failed, Sink, Source, WriteFault, put_all};
-pub use fields::{is_label, is_nothing, read_id, read_number, rest, word, words};
+pub use fields::{
+    is_label, is_label_byte, is_label_start, is_nothing, read_id, read_number, rest, trim_start,
+    word, words,
+};
 pub use line_reader::{LineFault, LineReader};
-pub use lines::without_cr;
+pub use lines::{LineList, without_cr};
 pub use memory::{ByteList, CallList, MemorySink, MemorySource};
 pub use page::{PAGE_BYTES, Page};
 pub use short_line::{SHORT_LINE_BYTES, ShortLine};

@@ -1,8 +1,9 @@
 pub mod BegunLine
 pub mod Lines
+pub mod ListedLine
 pub mod Numbers
+pub mod PieceLines
 pub mod Pieces
-pub mod Records
 pub mod Sorted
 pub mod Words
 pub mod Written

@@ -1,10 +1,8 @@
 -- Lines whose members make no piece.
-use Rattle.std.proofs.Common.{◌≡◌, ℕ, Bool, true, false, cond, List, [], ◌∷◌, Option, None, Some, refl, ap, ◌∙◌, if◌then◌else◌}
+use Rattle.std.proofs.Common.{◌≡◌, ℕ, Bool, true, false, List, [], ◌∷◌, Option, None, Some, refl, ap, ◌∙◌, if◌then◌else◌}
 use Rattle.std.specs.Prelude.{codes}
 use Rattle.std.specs.Option.{option_map, option_and_then}
 use Rattle.std.specs.Str.{bytes_eq}
-use Rattle.graph_types.specs.Piece.{PieceValue}
-use Rattle.record_text.specs.declared.read.RecordLine.{RecordLine}
 use Rattle.record_text.specs.declared.read.RecordLine.TheVariants.{Rem, Add, Done}
 use Rattle.record_text.specs.Grammar.{piece_said, record_said, stamp_of}
 

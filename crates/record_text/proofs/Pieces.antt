@@ -1,5 +1,5 @@
 -- A piece that is read member by member.
-use Rattle.std.proofs.Common.{◌≡◌, ℕ, suc, ◌+◌, ◌<◌, ◌≤◌, Bool, true, false, not, ◌&&◌, cond, leb, IsTrue, List, [], ◌∷◌, ◌++◌, length, Option, None, Some, refl, sym, ap, subst, ◌∙◌, arith, append_assoc, append-nil, length-append, if◌then◌else◌}
+use Rattle.std.proofs.Common.{◌≡◌, ℕ, ◌<◌, ◌≤◌, Bool, true, false, not, ◌&&◌, cond, leb, IsTrue, List, [], ◌∷◌, ◌++◌, length, Option, None, Some, refl, sym, ap, subst, ◌∙◌, arith, append_assoc, append-nil, length-append, if◌then◌else◌}
 use Rattle.std.specs.List.{AllByRecursion, list_all, list_any}
 use Rattle.std.specs.List.Sorted.{IsStrictlySortedBy}
 use Rattle.std.specs.Option.{option_map, option_and_then}
@@ -13,7 +13,8 @@ use Rattle.graph_types.specs.declared.member.Member.{Member}
 use Rattle.graph_types.specs.Orders.{member_cmp_total}
 use Rattle.graph_types.specs.Piece.{PieceValue, CanJoin, joined, is_ascending, member_cmp, member_eq, member_lt, mode_cmp, mode_of, most_members, with_member}
 use Rattle.record_text.specs.Grammar.{are_alike, member_of, members_said, piece_made, piece_said}
-use Rattle.record_text.proofs.Sorted.{SortedParts, sorted-append, sorted-parts, sorted-one, all-weaker, all-append_parts, all-below_last, absent_above, sorted_from_ascending, ascending_from_sorted, less}
+use Rattle.mining_model.proofs.Ascending.{IsStrictlySortedBy-append, all-weaker}
+use Rattle.record_text.proofs.Sorted.{sorted-parts, sorted-one, all-append_parts, all-below_last, absent_above, sorted_from_ascending, ascending_from_sorted, less}
 
 -- a first member and others make this piece
 pub record Makes (m : Member) (members : List Member) (piece : PieceValue) : Type 0 where
@@ -83,7 +84,7 @@ module _ (piece : PieceValue) (last m first : Member) (rest front : List Member)
       let members : (first ∷ rest) ++ m ∷ [] ≡ with_member piece.members m = sym (with_member-end (first ∷ rest) m below) ∙ ap (λ p. with_member p.members m) makes.is in
       record {
         alike = list_all-append (are_alike first) rest (m ∷ []) ∙ and_from _ _ makes.alike (and_from _ _ alike refl);
-        ascending = ascending_from_sorted ((first ∷ rest) ++ m ∷ []) (sorted-append member_cmp (first ∷ rest) (m ∷ []) sorted (sorted-one member_cmp m)
+        ascending = ascending_from_sorted ((first ∷ rest) ++ m ∷ []) (IsStrictlySortedBy-append member_cmp (first ∷ rest) (m ∷ []) sorted (sorted-one member_cmp m)
             (all-weaker (λ x. member_cmp x m ≡ Less) (λ x. AllByRecursion (λ y. member_cmp x y ≡ Less) (m ∷ [])) (λ x less. (less, tt)) (first ∷ rest) below));
         short = omega (arith, can.room, ap (λ p. length p.members) makes.is, length-append rest (m ∷ []));
         is = λ i. record { mode = ap (λ p. p.mode) makes.is i; members = members i };

@@ -1,5 +1,5 @@
 -- Lists in strict order, and the same of members by the test that a piece passes.
-use Rattle.std.proofs.Common.{◌≡◌, Bool, true, false, List, [], ◌∷◌, ◌++◌, refl, sym, ap, ◌∙◌, if◌then◌else◌}
+use Rattle.std.proofs.Common.{◌≡◌, Bool, true, false, List, [], ◌∷◌, ◌++◌, refl, ap, ◌∙◌, if◌then◌else◌}
 use Rattle.std.specs.List.{AllByRecursion, list_any}
 use Rattle.std.specs.List.Sorted.{IsStrictlySortedBy}
 use Rattle.std.specs.Ordering.{is_eq, is_lt, ordering_reverse}
@@ -10,18 +10,11 @@ use Rattle.std.proofs.lemmas.Bool.{false≢true, or_from}
 use Rattle.graph_types.specs.declared.member.Member.{Member}
 use Rattle.graph_types.specs.Orders.{member_cmp_total}
 use Rattle.graph_types.specs.Piece.{member_cmp, member_lt, is_ascending}
-
-pub all-append : {A : Type 0} (P : A → Type 0) (xs ys : List A) → AllByRecursion P xs → AllByRecursion P ys → AllByRecursion P (xs ++ ys)
-all-append P [] ys p q = q
-all-append P (x ∷ xs) ys p q = (p.0, all-append P xs ys p.1 q)
+use Rattle.mining_model.proofs.Ascending.{all-append, all-weaker}
 
 pub all-append_parts : {A : Type 0} (P : A → Type 0) (xs ys : List A) → AllByRecursion P (xs ++ ys) → AllByRecursion P xs × AllByRecursion P ys
 all-append_parts P [] ys p = (tt, p)
 all-append_parts P (x ∷ xs) ys p = let rest = all-append_parts P xs ys p.1 in ((p.0, rest.0), rest.1)
-
-pub all-weaker : {A : Type 0} (P Q : A → Type 0) → ((x : A) → P x → Q x) → (xs : List A) → AllByRecursion P xs → AllByRecursion Q xs
-all-weaker P Q so [] p = tt
-all-weaker P Q so (x ∷ xs) p = (so x p.0, all-weaker P Q so xs p.1)
 
 -- each item of the one list is below each of the other
 abbrev pub AllBelow : {A : Type 0} → (A → A → Ordering) → List A → List A → Type 0
@@ -33,11 +26,6 @@ pub record SortedParts {A : Type 0} (R : A → A → Ordering) (xs ys : List A) 
   pub apart : AllBelow R xs ys
 
 module _ {A : Type 0} (R : A → A → Ordering) where
-  pub sorted-append : (xs ys : List A) → IsStrictlySortedBy R xs → IsStrictlySortedBy R ys → AllBelow R xs ys → IsStrictlySortedBy R (xs ++ ys)
-  unfolding IsStrictlySortedBy
-  sorted-append [] ys s t before = t
-  sorted-append (x ∷ xs) ys s t before = (all-append (λ y. R x y ≡ Less) xs ys s.0 before.0, sorted-append xs ys s.1 t before.1)
-
   pub sorted-parts : (xs ys : List A) → IsStrictlySortedBy R (xs ++ ys) → SortedParts R xs ys
   unfolding IsStrictlySortedBy
   sorted-parts [] ys s = record { front = tt; back = s; apart = tt }

@@ -1,5 +1,5 @@
 -- The words of a line behind its first one, and the parts of a word round dashes.
-use Rattle.std.proofs.Common.{◌≡◌, ℕ, suc, ◌+◌, ◌-◌, ◌^◌, ◌<◌, ◌≤◌, Bool, true, false, ◌&&◌, cond, ltb, leb, List, [], ◌∷◌, length, take, drop, Option, None, Some, slice_get, refl, sym, ap, subst, ◌∙◌, arith, if◌then◌else◌}
+use Rattle.std.proofs.Common.{◌≡◌, ℕ, suc, ◌+◌, ◌-◌, ◌^◌, ◌<◌, Bool, true, false, ◌&&◌, cond, ltb, leb, List, [], ◌∷◌, length, take, drop, Option, None, Some, slice_get, refl, sym, ap, subst, ◌∙◌, arith, if◌then◌else◌}
 use Rattle.std.specs.List.{slice_split, onto_first, list_all, position, position_or_len, join_with_byte}
 use Rattle.std.specs.Option.{option_and_then}
 use Rattle.std.proofs.lemmas.Bool.{and_parts, and_right, ne_eqb, leb-true, ltb-true, ltb-false}
@@ -7,7 +7,7 @@ use Rattle.std.proofs.lemmas.Bool.Decides.{nat_tests}
 use Rattle.std.proofs.lemmas.List.Splits.{slice_split_none, slice_split_first, slice_split-cons_no, length-slice_split, join_with_byte-slice_split}
 use Rattle.std.proofs.lemmas.List.{take_all, length-drop}
 use Rattle.std.proofs.lemmas.List.Sums.{fails_before_first}
-use Rattle.job_io.specs.Fields.{is_blank, is_digit, has_bytes, value_after, words_of, trim_start, after_word, skip_words, rest_of, id_of}
+use Rattle.job_io.specs.Fields.{is_digit, has_bytes, value_after, words_of, trim_start, after_word, skip_words, rest_of, id_of}
 use Rattle.job_io.proofs.WordsOf.{words_of-trim_start, words_of-first, trim_start-first}
 use Rattle.record_text.specs.Grammar.{is_dash, edge_from, edge_said, member_of_parts}
 

@@ -1,2 +1,3 @@
 pub mod Grammar
+pub mod Listing
 pub mod Writable

@@ -1,5 +1,5 @@
 //! Records, as text: what an update took away and brought, a line each, and the line that closes a
-//! timestamp. They are written and read back.
+//! timestamp. They are written and read back. Pieces alone are written too, a line each.
 #![tactic(auto)]
 
 pub mod laws;
@@ -10,4 +10,4 @@ mod tests;
 mod write;
 
 pub use read::{BadRecord, RecordLine, read_record};
-pub use write::{write_delta, write_done};
+pub use write::{write_delta, write_done, write_listing};

@@ -1,4 +1,4 @@
-use crate::{BadRecord, RecordLine, read_record, write_delta, write_done};
+use crate::{BadRecord, RecordLine, read_record, write_delta, write_done, write_listing};
 use graph_types::{Edge, Member, Mode, Piece, PieceList, Stamp, VertexId};
 use job_io::{CallList, MemorySink, PAGE_BYTES, Page, WriteFault};
 use std::test::Fail;
@@ -37,6 +37,22 @@ fn writes_a_timestamp(rt: HostRuntime) -> Result<(), Fail> {
         sink.bytes(),
         b"REM 12 9 40 4294967295\nNEW 12 0\nNEW 12 1-7 2-10\nDONE 12\n".as_slice()
     );
+    Ok(())
+}
+
+#[test]
+fn writes_a_listing(rt: HostRuntime) -> Result<(), Fail> {
+    let mut pieces = PieceList::new(rt.alloc());
+    let mut sink = MemorySink::new(rt.alloc(), 100, 7, CallList::new(rt.alloc()))?;
+    let mut page = Page::new();
+    write_listing(&mut sink, &mut page, &pieces)?;
+    pieces.push(vertex_piece(&[40, 4294967295, 9]).ok_or("no piece")?)?;
+    pieces.push(vertex_piece(&[0]).ok_or("no piece")?)?;
+    pieces.push(edge_piece(&[(3, 2), (1, 2)]).ok_or("no piece")?)?;
+    write_listing(&mut sink, &mut page, &pieces)?;
+    assert_eq!(rt; sink.bytes(), b"".as_slice());
+    page.send(&mut sink)?;
+    assert_eq!(rt; sink.bytes(), b"9 40 4294967295\n0\n1-2 2-3\n".as_slice());
     Ok(())
 }
 

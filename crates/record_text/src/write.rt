@@ -2,8 +2,9 @@ ghost use Rattle.std.specs.Prelude.{◌≡◌, ◌++◌};
 ghost use Rattle.graph_types.specs.Piece.{members_of_all};
 ghost use Rattle.job_io.specs.Ends.{Gathers, HasCause};
 ghost use Rattle.mining_model.specs.Text.{delta_text, done_text, records_text};
+ghost use Rattle.record_text.specs.Listing.{listing_text};
 
-use crate::line::{done, record};
+use crate::line::{done, listed, record};
 use graph_types::{Piece, PieceList, Stamp};
 use job_io::{Page, Sink, WriteFault};
 
@@ -32,6 +33,31 @@ pub fn write_done<O: Sink>(out: &mut O, page: &mut Page, t: Stamp) -> Result<(),
     ensures cause { HasCause (O.faults out.old) (O.faults out.new) result }
 {
     page.put(out, done(t).as_slice())
+}
+
+/// Writes the pieces, each on a line of its own. What the page still holds is not out yet. Takes no
+/// memory.
+pub fn write_listing<O: Sink>(
+    out: &mut O,
+    page: &mut Page,
+    pieces: &PieceList,
+) -> Result<(), WriteFault>
+    ensures text { Gathers (O.written out.old) page.old (O.written out.new) page.new
+        (listing_text (members_of_all pieces.now)) result }
+    ensures cause { HasCause (O.faults out.old) (O.faults out.new) result }
+{
+    write_lines(out, page, pieces.as_slice())
+}
+
+fn write_lines<O: Sink>(out: &mut O, page: &mut Page, pieces: &[Piece]) -> Result<(), WriteFault>
+    ensures text { Gathers (O.written out.old) page.old (O.written out.new) page.new
+        (listing_text (members_of_all pieces.now)) result }
+    ensures cause { HasCause (O.faults out.old) (O.faults out.new) result }
+{
+    for piece in pieces {
+        page.put(out, listed(piece).as_slice())?;
+    }
+    Ok(())
 }
 
 fn write_records<O: Sink>(

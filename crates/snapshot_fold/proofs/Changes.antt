@@ -1,12 +1,11 @@
 -- Taking out what went from ascending pieces, and putting in what came, gives the pieces then.
-use Rattle.std.proofs.Common.{◌≡◌, Bool, true, false, not, ◌&&◌, ◌||◌, cond, List, [], ◌∷◌, map, filter, refl, sym, ap, ◌∙◌}
+use Rattle.std.proofs.Common.{◌≡◌, Bool, true, false, not, ◌&&◌, ◌||◌, List, [], ◌∷◌, refl, sym, ap, ◌∙◌}
 use Rattle.std.specs.List.{AllByRecursion, list_any}
 use Rattle.std.specs.List.Sorted.{IsStrictlySortedBy}
 use Rattle.std.specs.Ordering.{is_eq, ordering_then}
 use Rattle.std.specs.Cmp.{tied_itself}
-use Rattle.std.specs.Cmp.Lexicographic.{slice_cmp, lists_total}
-use Rattle.std.specs.FinMap.{IsAntisymmetric, slice_cmp-IsAntisymmetric}
-use Rattle.std.specs.declared.cmp.Ordering.{Ordering}
+use Rattle.std.specs.Cmp.Lexicographic.{slice_cmp}
+use Rattle.std.specs.FinMap.{slice_cmp-IsAntisymmetric}
 use Rattle.std.specs.declared.cmp.Ordering.TheVariants.{Less, Equal, Greater}
 use Rattle.std.proofs.lemmas.Bool.{and_right, not-true}
 use Rattle.std.proofs.lemmas.List.Kept.{IsStrictlySortedBy-filter}
@@ -14,14 +13,15 @@ use Rattle.std.proofs.lemmas.Map.Views.{any-filter_same}
 use Rattle.graph_types.specs.declared.ids.Mode.{Mode}
 use Rattle.graph_types.specs.declared.ids.Mode.TheVariants as mode
 use Rattle.graph_types.specs.declared.member.Member.{Member}
-use Rattle.graph_types.specs.Orders.{member_cmp_total, piece_cmp_total}
+use Rattle.graph_types.specs.Orders.{piece_cmp_total}
 use Rattle.graph_types.specs.Piece.{PieceValue, member_cmp, mode_cmp, piece_cmp}
 use Rattle.graph_types.proofs.Members.{member_cmp-IsAntisymmetric, piece_cmp-IsAntisymmetric}
 use Rattle.mining_model.specs.Changes.{same_members, without}
+use Rattle.mining_model.proofs.Ascending.{IsStrictlySortedBy-map, all-map}
 use Rattle.snapshot_fold.specs.Pieces.{is_among, is_same, with_piece, without_piece}
 use Rattle.snapshot_fold.specs.Records.{pieces_of}
 use Rattle.snapshot_fold.proofs.Ascending.{among-insert_key, among-remove_key, is_tie, same_list, sorted-insert_key, sorted-remove_key}
-use Rattle.snapshot_fold.proofs.Each.{all-found, all-kept, all-map, all-map-filter, sorted-map}
+use Rattle.snapshot_fold.proofs.Each.{all-found, all-kept, all-map-filter}
 use Rattle.snapshot_fold.proofs.Undone.{Ascends}
 
 -- ---- pieces one after another
@@ -88,7 +88,7 @@ module _ (kind : Mode) where
   one_mode p q = elim kind as (λ k. ordering_then (mode_cmp k k) (slice_cmp member_cmp p q) ≡ slice_cmp member_cmp p q) [ mode.Vertex ↦ refl | mode.Edge ↦ refl ]
 
   pub ascends-pieces_of : (lists : List (List Member)) → IsStrictlySortedBy (slice_cmp member_cmp) lists → Ascends (pieces_of kind lists)
-  ascends-pieces_of lists s = sorted-map (slice_cmp member_cmp) piece_cmp piece (λ p q less. one_mode p q ∙ less) lists s
+  ascends-pieces_of lists s = IsStrictlySortedBy-map (slice_cmp member_cmp) piece_cmp piece (λ p q less. one_mode p q ∙ less) lists s
 
   same_parts : (q : PieceValue) (members : List Member) → is_same q (piece members) ≡ (is_eq (mode_cmp q.mode kind) && same_members q.members members)
   same_parts q members =

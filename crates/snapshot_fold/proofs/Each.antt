@@ -1,15 +1,8 @@
 -- Claims of each item of a list.
-use Rattle.std.proofs.Common.{◌≡◌, Bool, true, false, cond, List, [], ◌∷◌, ◌++◌, map, filter, refl, sym, ap, ◌∙◌}
+use Rattle.std.proofs.Common.{◌≡◌, Bool, true, false, cond, List, [], ◌∷◌, map, filter, refl}
 use Rattle.std.specs.List.{AllByRecursion, list_any}
-use Rattle.std.specs.List.Sorted.{IsStrictlySortedBy}
-use Rattle.std.specs.declared.cmp.Ordering.{Ordering}
-use Rattle.std.specs.declared.cmp.Ordering.TheVariants.{Less}
 use Rattle.std.proofs.lemmas.Bool.{or_left, or_right}
-use Rattle.record_text.proofs.Sorted.{all-weaker}
-
-pub all-map : {A B : Type 0} (P : A → Type 0) (Q : B → Type 0) (f : A → B) → ((x : A) → P x → Q (f x)) → (xs : List A) → AllByRecursion P xs → AllByRecursion Q (map f xs)
-all-map P Q f so [] p = tt
-all-map P Q f so (x ∷ xs) p = (so x p.0, all-map P Q f so xs p.1)
+use Rattle.mining_model.proofs.Ascending.{all-weaker}
 
 pub all-both : {A : Type 0} (P Q : A → Type 0) (xs : List A) → AllByRecursion P xs → AllByRecursion Q xs → AllByRecursion (λ x. P x × Q x) xs
 all-both P Q [] p q = tt
@@ -48,9 +41,3 @@ all-found test itself (x ∷ xs) = (
   or_left (test x x) _ (itself x),
   all-weaker (λ y. list_any (test y) xs ≡ true) (λ y. list_any (test y) (x ∷ xs) ≡ true) (λ y found. or_right (test y x) _ found) xs (all-found test itself xs),
 )
-
-pub sorted-map : {A B : Type 0} (R : A → A → Ordering) (S : B → B → Ordering) (f : A → B) → ((x y : A) → R x y ≡ Less → S (f x) (f y) ≡ Less) → (xs : List A) → IsStrictlySortedBy R xs → IsStrictlySortedBy S (map f xs)
-unfolding IsStrictlySortedBy
-sorted-map R S f keeps [] s = tt
-sorted-map R S f keeps (x ∷ xs) s =
-    (all-map (λ y. R x y ≡ Less) (λ z. S (f x) z ≡ Less) f (λ y. keeps x y) xs s.0, sorted-map R S f keeps xs s.1)

@@ -8,3 +8,8 @@ pub mod Steps
 pub mod Telling
 pub mod Undone
 pub mod Worked
+pub mod Known
+pub mod Judging
+pub mod Told
+pub mod Going
+pub mod Taken

@@ -1,8 +1,7 @@
 -- What one record does to what a fold keeps.
 use Rattle.std.proofs.Common.{◌≡◌, ℕ, Bool, true, false, not, ◌&&◌, ◌||◌, List, [], ◌∷◌, ◌++◌, Option, None, Some, refl, sym, ap, subst, ◌∙◌, ⊎_elim}
-use Rattle.std.specs.List.{AllByRecursion, list_any}
+use Rattle.std.specs.List.{AllByRecursion}
 use Rattle.std.specs.List.Sorted.{IsStrictlySortedBy}
-use Rattle.std.specs.Ordering.{is_eq}
 use Rattle.std.specs.Prelude.{Result, Ok, Err, OnOk}
 use Rattle.std.specs.Result.{is_err}
 use Rattle.std.specs.declared.cmp.Ordering.TheVariants.{Less}
@@ -12,23 +11,20 @@ use Rattle.graph_types.specs.declared.ids.Mode.{Mode}
 use Rattle.graph_types.specs.Orders.{piece_cmp_total}
 use Rattle.graph_types.specs.Piece.{PieceValue, piece_cmp}
 use Rattle.graph_types.proofs.Members.{piece_cmp-IsAntisymmetric}
-use Rattle.record_text.proofs.Sorted.{all-weaker, sorted-append, sorted-one}
+use Rattle.mining_model.proofs.Ascending.{IsStrictlySortedBy-append, all-weaker}
+use Rattle.record_text.proofs.Sorted.{sorted-one}
 use Rattle.snapshot_fold.specs.FoldState.{FoldState}
 use Rattle.snapshot_fold.specs.Pieces.{is_above, is_among, is_same, last_of, with_piece, without_piece}
 use Rattle.snapshot_fold.specs.Taking.{after_done, after_new, after_rem}
 use Rattle.snapshot_fold.specs.Undone.{IsOpen, undone}
 use Rattle.snapshot_fold.proofs.Ascending.{among-insert_key, among-remove_key, same_item, same_list, sorted-insert_key, sorted-remove_key}
 use Rattle.snapshot_fold.proofs.Lasts.{all_below_next, last_of-push, no_last}
-use Rattle.snapshot_fold.proofs.Undone.{Ascends, among-undone, undone-ascends}
+use Rattle.snapshot_fold.proofs.Undone.{Ascends, among-undone, or_false, undone-ascends}
 
 ascends-push : (pieces : List PieceValue) (p : PieceValue) → Ascends pieces → is_above (last_of pieces) p ≡ true → Ascends (pieces ++ p ∷ [])
 ascends-push pieces p s above =
-    sorted-append piece_cmp pieces (p ∷ []) s (sorted-one piece_cmp p)
+    IsStrictlySortedBy-append piece_cmp pieces (p ∷ []) s (sorted-one piece_cmp p)
     (all-weaker (λ q. piece_cmp q p ≡ Less) (λ q. AllByRecursion (λ r. piece_cmp q r ≡ Less) (p ∷ [])) (λ q less. (less, tt)) pieces (all_below_next pieces p s above))
-
-or_false : (b : Bool) → (b || false) ≡ b
-or_false true = refl
-or_false false = refl
 
 among-push : (pieces : List PieceValue) (p q : PieceValue) → is_among (pieces ++ p ∷ []) q ≡ (is_among pieces q || is_same q p)
 among-push pieces p q = list_any-append (is_same q) pieces (p ∷ []) ∙ ap (λ b. is_among pieces q || b) (or_false (is_same q p))

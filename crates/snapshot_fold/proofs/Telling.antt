@@ -1,6 +1,6 @@
 -- A fold that reads the records of some updates.
-use Rattle.std.proofs.Common.{◌≡◌, ◌≢◌, ℕ, zero, suc, ◌+◌, ◌-◌, ◌^◌, ◌<◌, ◌≤◌, Bool, true, false, not, ◌&&◌, ◌||◌, cond, eqb, List, [], ◌∷◌, ◌++◌, map, Option, None, Some, All, refl, sym, ap, subst, ◌∙◌, arith, append_assoc, append-nil, if◌then◌else◌}
-use Rattle.std.specs.Prelude.{Result, Ok, Err, codes, decimal}
+use Rattle.std.proofs.Common.{◌≡◌, ◌≢◌, ℕ, zero, suc, ◌+◌, ◌-◌, ◌^◌, ◌<◌, ◌≤◌, true, false, not, eqb, List, [], ◌∷◌, ◌++◌, map, Option, None, Some, All, refl, sym, ap, subst, ◌∙◌, arith, append_assoc, append-nil, if◌then◌else◌}
+use Rattle.std.specs.Prelude.{Ok, Err, codes, decimal}
 use Rattle.std.specs.FinMap as finite
 use Rattle.std.specs.List.{AllByRecursion, filter, flat_map}
 use Rattle.std.specs.List.Sorted.{IsStrictlySortedBy}
@@ -11,7 +11,7 @@ use Rattle.std.specs.declared.cmp.Ordering.{Ordering}
 use Rattle.std.specs.declared.cmp.Ordering.TheVariants.{Less, Equal, Greater}
 use Rattle.std.proofs.lemmas.Bool.{and_from, or_from, ne_eqb, eq-eqb, eqb-true, eqb-false}
 use Rattle.std.proofs.lemmas.List.{nil_from_length}
-use Rattle.graph_types.specs.Graph.{Graph, empty_graph, pair_cmp}
+use Rattle.graph_types.specs.Graph.{empty_graph, pair_cmp}
 use Rattle.graph_types.specs.declared.ids.Mode.{Mode}
 use Rattle.graph_types.specs.declared.ids.Mode.TheVariants as mode
 use Rattle.graph_types.specs.declared.member.Member.{Member}
@@ -19,27 +19,26 @@ use Rattle.graph_types.specs.declared.member.Member.TheVariants as member
 use Rattle.graph_types.specs.declared.update.Update.{Update}
 use Rattle.graph_types.specs.Orders.{piece_cmp_total}
 use Rattle.graph_types.specs.Piece.{PieceValue, member_cmp, mode_cmp, most_members, piece_cmp}
-use Rattle.job_io.specs.Lines.{HasNoLf, lf, whole_lines_of, without_cr}
+use Rattle.job_io.specs.Lines.{lf, whole_lines_of}
 use Rattle.job_io.proofs.LinesOf.{whole_lines_of-whole}
 use Rattle.mining_model.specs.Changes.{without}
 use Rattle.mining_model.specs.Embeddings.{Pattern, embeddings, is_embedding, members_of, short_lists}
 use Rattle.mining_model.specs.Step.{snapshot}
 use Rattle.mining_model.specs.Text.{done_text, member_text, record_line, records_text, spaced, step_text, text_at, text_upto}
-use Rattle.mining_model.proofs.Ascending.{IsStrictlySortedBy-embeddings}
+use Rattle.mining_model.proofs.Ascending.{IsStrictlySortedBy-embeddings, all-weaker}
 use Rattle.record_text.specs.declared.read.RecordLine.{RecordLine}
 use Rattle.record_text.specs.declared.read.RecordLine.TheVariants.{Rem, Add, Done}
 use Rattle.record_text.specs.Grammar.{record_of}
 use Rattle.record_text.specs.Writable.{IsStamp, IsWritable}
-use Rattle.record_text.proofs.Sorted.{all-weaker}
+use Rattle.record_text.proofs.Pieces.{mode_itself}
 use Rattle.record_text.proofs.Written.{IsWritten, HasNoLf-printed, without_cr-printed, rem_written, new_written, done_written}
-use Rattle.snapshot_fold.specs.declared.fault.FoldFault.{FoldFault}
 use Rattle.snapshot_fold.specs.declared.fault.FoldFault.TheVariants.{MixedModes, OutOfOrder, AddsPresent, RemovesAbsent}
 use Rattle.snapshot_fold.specs.FoldState.{FoldState, start}
-use Rattle.snapshot_fold.specs.FoldText.{accepted, behind_line, fold_text, pieces_where_done}
+use Rattle.snapshot_fold.specs.FoldText.{accepted, fold_text, pieces_where_done}
 use Rattle.snapshot_fold.specs.Pieces.{is_above, is_among, is_same, with_piece, without_piece}
 use Rattle.snapshot_fold.specs.Records.{AddsShortId, pieces_of}
 use Rattle.snapshot_fold.specs.Taking.{after_done, after_new, comes_in_order, goes_in_order, after_rem, is_of_other_mode, is_open, taken}
-use Rattle.snapshot_fold.proofs.Changes.{ascends-pieces_of, ascends-with, ascends-without, ascends-without_all, among-with, among-without, came-absent, came-ascends, changes, went-ascends, went-there, with_all, without_all}
+use Rattle.snapshot_fold.proofs.Changes.{ascends-pieces_of, ascends-without, among-with, among-without, came-absent, came-ascends, changes, went-ascends, went-there, with_all, without_all}
 use Rattle.snapshot_fold.proofs.Each.{all-both, all-filter}
 use Rattle.snapshot_fold.proofs.Embedded.{piece_of, writable-embeddings}
 use Rattle.snapshot_fold.proofs.Snapshots.{IsShort-snapshot}
@@ -59,10 +58,6 @@ line_taken s behind said line rest text t split written takes =
     ∙ ap (λ r. go (accepted r)) takes
 
 -- ---- one record
-
-mode_itself : (k : Mode) → is_eq (mode_cmp k k) ≡ true
-mode_itself mode.Vertex = refl
-mode_itself mode.Edge = refl
 
 -- what is known of a fold within a timestamp
 record IsWithin (s : FoldState) (kind : Mode) (t : ℕ) (held : List PieceValue) (rem new : Option PieceValue) : Type 0 where

@@ -1,21 +1,20 @@
 -- What taking back the open timestamp gives, and that a record more does not change it.
-use Rattle.std.proofs.Common.{◌≡◌, ℕ, zero, suc, ◌+◌, ◌-◌, ◌<◌, ◌≤◌, Bool, true, false, not, ◌&&◌, ◌||◌, IsTrue, List, [], ◌∷◌, ◌++◌, length, get_or, drop, Option, None, Some, refl, sym, ap, subst, ◌∙◌, arith, if◌then◌else◌}
+use Rattle.std.proofs.Common.{◌≡◌, Bool, true, false, not, ◌&&◌, ◌||◌, List, [], ◌∷◌, ◌++◌, drop, refl, sym, ap, subst, ◌∙◌, if◌then◌else◌}
 use Rattle.std.specs.List.{AllByRecursion, list_any}
 use Rattle.std.specs.List.Sorted.{IsStrictlySortedBy}
-use Rattle.std.specs.Option.{is_none}
-use Rattle.std.specs.Ordering.{is_eq, is_le, is_lt, ordering_reverse}
+use Rattle.std.specs.Ordering.{is_eq, is_le, ordering_reverse}
 use Rattle.std.specs.BTreeMap.Comparable.{le_lt_trans}
-use Rattle.std.specs.declared.cmp.Ordering.{Ordering}
 use Rattle.std.specs.declared.cmp.Ordering.TheVariants.{Less, Equal, Greater}
-use Rattle.std.proofs.lemmas.Bool.{true≢false, false≢true, or_cases, or_left, or_right, or_parts, or_from}
+use Rattle.std.proofs.lemmas.Bool.{true≢false, or_left, or_right, or_parts}
 use Rattle.std.proofs.lemmas.List.Folds.{list_any-append}
 use Rattle.graph_types.specs.Orders.{piece_cmp_total}
 use Rattle.graph_types.specs.Piece.{PieceValue, piece_cmp}
 use Rattle.graph_types.proofs.Members.{piece_cmp-IsAntisymmetric}
-use Rattle.record_text.proofs.Sorted.{SortedParts, all-append, all-append_parts, all-weaker, all-below, all-below_last, sorted-append, sorted-parts, sorted-one}
-use Rattle.snapshot_fold.specs.Pieces.{is_above, is_among, is_same, last_of}
+use Rattle.mining_model.proofs.Ascending.{IsStrictlySortedBy-append, all-append, all-weaker}
+use Rattle.record_text.proofs.Sorted.{SortedParts, all-append_parts, all-below, sorted-parts}
+use Rattle.snapshot_fold.specs.Pieces.{is_among, is_same}
 use Rattle.snapshot_fold.specs.Undone.{IsOpen, begins_with, beyond, undone, up_to}
-use Rattle.snapshot_fold.proofs.Ascending.{absent_below, first_apart, same_item, same_list}
+use Rattle.snapshot_fold.proofs.Ascending.{absent_below, first_apart, same_item}
 
 abbrev same : (p q : PieceValue) → is_same p q ≡ true → p ≡ q
 same = same_item piece_cmp_total piece_cmp-IsAntisymmetric
@@ -162,7 +161,7 @@ stays_step false false h c false so = refl
 stays_step false false h true true so = absurd (true≢false (so refl))
 stays_step false false h false true so = refl
 
-or_false : (b : Bool) → b ≡ (b || false)
+pub or_false : (b : Bool) → (b || false) ≡ b
 or_false true = refl
 or_false false = refl
 
@@ -192,7 +191,7 @@ module _ (q : PieceValue) where
       ∙ ap (λ x. is_among went q || (is_among (p ∷ held) q && not (is_same q x || is_among came q))) (sym (same c p tied))
 
   pub among-undone : (held went came : List PieceValue) → IsOpen held went came → is_among (undone held went came) q ≡ (is_among went q || (is_among held q && not (is_among came q)))
-  among-undone [] went came kept = or_false (is_among went q)
+  among-undone [] went came kept = sym (or_false (is_among went q))
   among-undone (p ∷ held) went [] kept = among-stays p held went [] kept refl (among-undone held (beyond went p) [] (IsOpen-stays p held went [] kept refl))
   among-undone (p ∷ held) went (c ∷ came) kept =
       elim (is_same c p) as (λ b. is_same c p ≡ b → is_among (up_to went p ++ (if b then undone held (beyond went p) came else p ∷ undone held (beyond went p) (c ∷ came))) q ≡ Before (p ∷ held) went (c ∷ came)) [
@@ -231,7 +230,7 @@ module _ (p : PieceValue) (held went : List PieceValue) where
   ascends-came : (came : List PieceValue) → Ascends (p ∷ held) → Ascends went → Ascends (undone held (beyond went p) came) → Ascends (up_to went p ++ undone held (beyond went p) came)
   ascends-came came s w rest =
       let later = after_all came s w in
-      sorted-append piece_cmp (up_to went p) (undone held (beyond went p) came) (parts_of w).front rest
+      IsStrictlySortedBy-append piece_cmp (up_to went p) (undone held (beyond went p) came) (parts_of w).front rest
       (all-weaker (λ q. is_le (piece_cmp q p) ≡ true) (λ q. AllByRecursion (λ t. piece_cmp q t ≡ Less) (undone held (beyond went p) came))
       (λ q below. all-weaker (λ t. piece_cmp p t ≡ Less) (λ t. piece_cmp q t ≡ Less) (λ t less. le_lt_trans piece_cmp_total q p t below less) (undone held (beyond went p) came) later)
       (up_to went p) (up_to-below went p))
@@ -241,7 +240,7 @@ module _ (p : PieceValue) (held went : List PieceValue) where
   ascends-stays came s w apart rest =
       let later = after_all came s w in
       let strict = strictly p (up_to went p) (up_to-below went p) (or_parts _ _ (sym (among-parts went p p) ∙ apart)).0 in
-      sorted-append piece_cmp (up_to went p) (p ∷ undone held (beyond went p) came) (parts_of w).front (later, rest)
+      IsStrictlySortedBy-append piece_cmp (up_to went p) (p ∷ undone held (beyond went p) came) (parts_of w).front (later, rest)
       (all-weaker (λ q. piece_cmp q p ≡ Less) (λ q. AllByRecursion (λ t. piece_cmp q t ≡ Less) (p ∷ undone held (beyond went p) came))
       (λ q less. (less, all-below piece_cmp_total q p (undone held (beyond went p) came) less later))
       (up_to went p) strict)

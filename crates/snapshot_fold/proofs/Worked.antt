@@ -1,10 +1,13 @@
 -- A text of records, and what it tells of.
-use Rattle.std.proofs.Common.{◌≡◌, ℕ, List, [], ◌∷◌, ◌++◌, Option, None, Some, refl}
+use Rattle.std.proofs.Common.{◌≡◌, ℕ, List, [], ◌∷◌, None, Some, Ok, Err, refl}
 use Rattle.std.specs.Prelude.{codes}
 use Rattle.graph_types.specs.declared.ids.Mode.TheVariants as mode
 use Rattle.graph_types.specs.declared.member.Member.TheVariants as member
 use Rattle.graph_types.specs.Piece.{PieceValue}
+use Rattle.job_io.specs.Lines.{lines_of}
+use Rattle.snapshot_fold.specs.declared.folding.FoldStop.TheVariants as stop
 use Rattle.snapshot_fold.specs.FoldText.{fold_text}
+use Rattle.snapshot_fold.specs.Folding.{folded}
 
 triangle : PieceValue
 triangle = record { mode = mode.Vertex; members = member.Vertex 1 ∷ member.Vertex 2 ∷ member.Vertex 3 ∷ [] }
@@ -28,3 +31,25 @@ at_third = refl
 at_fourth : fold_text text 4 ≡ None
 unfolding text
 at_fourth = refl
+
+folded_at_second : folded 10 (Some 2) (lines_of text) ≡ Ok (triangle ∷ [])
+unfolding text triangle
+folded_at_second = refl
+
+-- the last line is torn, and the one before says that 3 is done
+folded_at_end : folded 10 None (lines_of text) ≡ Ok []
+unfolding text
+folded_at_end = refl
+
+folded_at_fourth : folded 10 (Some 4) (lines_of text) ≡ Err (stop.NotDone 6)
+unfolding text
+folded_at_fourth = refl
+
+-- a line too many stops a fold, unless its timestamp is done before
+folded_short : folded 2 None (lines_of text) ≡ Err (stop.TooMany 3)
+unfolding text
+folded_short = refl
+
+folded_before : folded 1 (Some 1) (lines_of text) ≡ Ok []
+unfolding text
+folded_before = refl

@@ -1,5 +1,5 @@
 -- What the law of the records speaks of.
-use Rattle.std.specs.Prelude.{ℕ, ◌^◌, ◌<◌, List, map}
+use Rattle.std.specs.Prelude.{◌^◌, ◌<◌, List, map}
 use Rattle.graph_types.specs.declared.ids.Mode.{Mode}
 use Rattle.graph_types.specs.declared.member.Member.{Member}
 use Rattle.graph_types.specs.declared.update.Update.{Update}

@@ -1,5 +1,7 @@
 ghost use Rattle.std.specs.Prelude.{◌≡◌, true, false, not, IsTrue, Ok, Err, IfErr, IfOk, OnErr, OnOk, None, if◌then◌else◌};
+ghost use Rattle.std.specs.List.Sorted.{IsStrictlySortedBy};
 ghost use Rattle.std.specs.Option.{is_none};
+ghost use Rattle.graph_types.specs.Piece.{piece_cmp};
 ghost use Rattle.snapshot_fold.specs.FoldState.{start};
 ghost use Rattle.snapshot_fold.specs.Pieces.{is_above, is_among, last_of};
 ghost use Rattle.snapshot_fold.specs.Taking.{IsRefusal, after_new, comes_in_order, goes_in_order, after_rem, is_of_other_mode, is_open, taken};
@@ -85,7 +87,8 @@ impl Fold {
     /// The pieces at the last timestamp that is done, ascending, in a new list. Takes time linear in the
     /// number of pieces that are held.
     pub fn listing(&self, alloc: Global) -> Result<PieceList, NoMemory>
-        ensures { IfOk result (λ pieces. pieces ≡ self.now.settled) }
+        ensures settled { IfOk result (λ pieces. pieces ≡ self.now.settled) }
+        ensures ascending { IfOk result (IsStrictlySortedBy piece_cmp) }
     {
         put_back(
             alloc,

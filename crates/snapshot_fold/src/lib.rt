@@ -3,10 +3,14 @@
 
 mod fault;
 mod fold;
+mod folding;
 pub mod laws;
 mod listing;
+#[cfg(test)]
+mod source_tests;
 #[cfg(test)]
 mod tests;
 
 pub use fault::FoldFault;
 pub use fold::Fold;
+pub use folding::{FoldStop, fold_records};

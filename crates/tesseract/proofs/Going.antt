@@ -12,10 +12,9 @@ use Rattle.job_io.proofs.Gathering.{AppendsFront-more}
 use Rattle.job_io.specs.Lines.{lf, HasNoLf, Line, Reading, lines_of, whole_lines_of, line_text}
 use Rattle.job_io.specs.Lines.{GivesLine, GivesEnd, StopsInLine}
 use Rattle.job_io.proofs.LinesOf.{whole_lines_of-whole, whole_lines_of-none, lines_of-unfinished}
-use Rattle.tesseract.specs.declared.header.Awaited.TheVariants as awaited
 use Rattle.tesseract.specs.declared.status.Status.{Status}
 use Rattle.tesseract.specs.declared.status.Status.TheVariants as status
-use Rattle.tesseract.specs.Job.{Stage, heading, streaming, accepted, judged, ended, judge, verdict}
+use Rattle.tesseract.specs.Job.{Stage, heading, streaming, first_stage, accepted, judged, ended, judge, verdict}
 use Rattle.tesseract.specs.Job.{text_of, end_of}
 use Rattle.tesseract.specs.Progress.{text_behind, Reached}
 use Rattle.tesseract.specs.Run.{IsJob, IsFrontOfJob, WritesFront, Mines}
@@ -50,7 +49,7 @@ BothKnown-map P Q (Some was) (Some is) p f = f was is p
 
 pub Running-start : (most : ℕ) (left written : Option (List ℕ)) (reader : Reading) →
     IsTrue reader.line.whole → reader.number ≡ 0 → reader.held ≡ [] →
-    Running most left left written written [] reader (heading awaited.Mode) 0
+    Running most left left written written [] reader first_stage 0
 Running-start most left written reader finished none empty = record {
   text = [];
   passed = PassesOn-start written [];
@@ -58,7 +57,7 @@ Running-start most left written reader finished none empty = record {
     gone = [];
     lines = ap (λ held. lines_of (held ++ bytes)) (sym empty);
     reached =
-        subst (λ n. Reached most [] [] n 0 (heading awaited.Mode)) (sym none) (Reached-start most);
+        subst (λ n. Reached most [] [] n 0 first_stage) (sym none) (Reached-start most);
     whole =
         inl (record {
           finished = finished;
@@ -184,7 +183,7 @@ unless_unread status.WriteFault unread read stop so = absurd stop
 
 unless_unread_clean : (n : ℕ) (stage : Stage) (unread read : Type 0) → read →
     IfUnread (end_of (ended n stage None)) unread read
-unless_unread_clean n (heading next) unread read so = so
+unless_unread_clean n (heading next names) unread read so = so
 unless_unread_clean n (streaming pattern names g) unread read so = so
 
 module _ (most : ℕ) (bytes was is text : List ℕ) (old new : Reading) (stage : Stage) (t : ℕ)

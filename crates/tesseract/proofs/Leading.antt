@@ -25,7 +25,7 @@ pub record Accepts (most n : ℕ) (stage : Stage) (t : ℕ) (bytes : List ℕ)
 
 -- No timestamp is taken before the header is whole.
 abbrev pub IsStampOf : Stage → ℕ → Type 0
-IsStampOf (heading next) t = t ≡ 0
+IsStampOf (heading next names) t = t ≡ 0
 IsStampOf (streaming pattern names g) t = Unit {0}
 
 -- Line n leads on, and takes no timestamp.

@@ -4,3 +4,6 @@ pub mod Going
 pub mod Taking
 pub mod Turning
 pub mod Making
+mod Commands
+mod Jobs
+mod Listing

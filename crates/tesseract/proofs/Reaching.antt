@@ -5,21 +5,20 @@ use Rattle.std.proofs.Common.{subst, append_assoc, append-nil}
 use Rattle.graph_types.specs.Graph.{Graph, empty_graph}
 use Rattle.graph_types.specs.declared.update.Update.{Update}
 use Rattle.job_io.specs.Lines.{Line, without_cr, most_line_bytes}
-use Rattle.job_io.specs.Fields.{words_of}
 use Rattle.update_reader.specs.Names.{Names}
 use Rattle.update_reader.specs.Grammar.{Said, nothing, commit, update, too_many_labels, bad_line, said}
 use Rattle.mining_model.specs.Step.{Refusal, step, left_by, after}
 use Rattle.mining_model.specs.Embeddings.{Pattern}
 use Rattle.mining_model.specs.Text.{step_text, text_from}
 use Rattle.mining_model.proofs.Texts.{text_from-start}
-use Rattle.tesseract.specs.declared.header.Awaited.{Awaited}
-use Rattle.tesseract.specs.declared.header.Awaited.TheVariants as awaited
-use Rattle.tesseract.specs.declared.header.HeaderStep.{HeaderStep}
-use Rattle.tesseract.specs.declared.header.HeaderStep.TheVariants.{More, Ready}
-use Rattle.tesseract.specs.Header.{header_step}
+use Rattle.program_grammar.specs.declared.fault.Refusal.{Refusal as HeaderRefusal}
+use Rattle.program_grammar.specs.declared.header.HeaderReader.{HeaderReader}
+use Rattle.program_grammar.specs.declared.header.HeaderStep.{HeaderStep}
+use Rattle.program_grammar.specs.declared.header.HeaderStep.TheVariants.{More, Ready}
+use Rattle.program_grammar.specs.Header.{header_said}
 use Rattle.tesseract.specs.declared.status.Status.{Status}
 use Rattle.tesseract.specs.declared.status.Status.TheVariants as status
-use Rattle.tesseract.specs.Job.{Stage, heading, streaming, Judged, refused, moved, accepted}
+use Rattle.tesseract.specs.Job.{Stage, heading, streaming, first_stage, Judged, refused, moved, accepted}
 use Rattle.tesseract.specs.Job.{judged_header, judged_step, judged_said, judged_line, judged}
 use Rattle.tesseract.specs.Job.{Verdict, ended, led_on, judge, verdict, text_of}
 use Rattle.tesseract.specs.Job.{text_under, end_of}
@@ -36,10 +35,10 @@ IsStop why = ⊥
 -- what a line may lead to from a stage
 Follows : Stage → Judged → Type 0
 Follows stage (refused why) = IsStop why
-Follows (heading next) (moved (heading later)) = Unit {0}
-Follows (heading next) (moved (streaming pattern names g)) = g ≡ empty_graph
-Follows (heading next) (accepted u pattern names g) = ⊥
-Follows (streaming pattern names g) (moved (heading next)) = ⊥
+Follows (heading next names) (moved (heading later more)) = Unit {0}
+Follows (heading next names) (moved (streaming pattern more g)) = g ≡ empty_graph
+Follows (heading next names) (accepted u pattern more g) = ⊥
+Follows (streaming pattern names g) (moved (heading next more)) = ⊥
 Follows (streaming pattern names g) (moved (streaming same later now)) = (same ≡ pattern) × (now ≡ g)
 Follows (streaming pattern names g) (accepted u same later now) = (same ≡ pattern) × (now ≡ after g u)
 
@@ -47,12 +46,13 @@ choice : (P : Judged → Type 0) (b : Bool) (x y : Judged) → P x → P y → P
 choice P true x y p q = p
 choice P false x y p q = q
 
-follows_header : (n : ℕ) (next : Awaited) (step : Option HeaderStep) →
-    Follows (heading next) (judged_header n step)
+follows_header : (n : ℕ) (next : HeaderReader) (names : Names)
+    (said : Result (HeaderStep × Names) HeaderRefusal) →
+    Follows (heading next names) (judged_header n said)
 unfolding Follows
-follows_header n next None = tt
-follows_header n next (Some (More later)) = tt
-follows_header n next (Some (Ready size)) = refl
+follows_header n next names (Ok (More later, more)) = tt
+follows_header n next names (Ok (Ready program, more)) = refl
+follows_header n next names (Err refusal) = tt
 
 follows_step : (n : ℕ) (pattern : Pattern) (names later : Names) (g : Graph) (u : Update)
     (stepped : Result Graph Refusal) → step g u ≡ stepped →
@@ -71,8 +71,8 @@ follows_said n pattern names g too_many_labels = tt
 follows_said n pattern names g bad_line = tt
 
 follows_line : (n : ℕ) (stage : Stage) (bytes : List ℕ) → Follows stage (judged_line n stage bytes)
-follows_line n (heading next) bytes =
-    follows_header n next (header_step next (words_of (without_cr bytes)))
+follows_line n (heading next names) bytes =
+    follows_header n next names (header_said next (without_cr bytes) names)
 follows_line n (streaming pattern names g) bytes =
     follows_said n pattern names g (said names (without_cr bytes))
 
@@ -89,7 +89,7 @@ led_pattern : (n : ℕ) (pattern : Pattern) (names : Names) (g : Graph) (j : Jud
     (led_on n (streaming pattern names g) j rest).pattern ≡ Some pattern
 unfolding Follows
 led_pattern n pattern names g (refused why) rest f same = refl
-led_pattern n pattern names g (moved (heading next)) rest f same = absurd f
+led_pattern n pattern names g (moved (heading next more)) rest f same = absurd f
 led_pattern n pattern names g (moved (streaming other later now)) rest f same =
     ap (λ q. (rest (streaming q later now)).pattern) f.0 ∙ same later now
 led_pattern n pattern names g (accepted u other later now) rest f same =
@@ -106,7 +106,7 @@ streaming_pattern most n pattern names g (line ∷ lines) =
     (λ later now. streaming_pattern most (suc n) pattern later now lines)
 
 -- nothing was read yet
-pub Reached-start : (most : ℕ) → Reached most [] [] 0 0 (heading awaited.Mode)
+pub Reached-start : (most : ℕ) → Reached most [] [] 0 0 first_stage
 Reached-start most =
     record { whole_text = λ lines. refl; whole_end = λ lines. refl; whole_stop = λ lines. refl }
 
@@ -121,14 +121,14 @@ text_behind-moved : (most n t : ℕ) (stage next : Stage) (lines : List Line) �
     Follows stage (moved next) → IsStampOf stage t →
     text_behind stage t (judge most n next lines) ≡ text_behind next t (judge most n next lines)
 unfolding Follows
-text_behind-moved most n t (heading a) (heading b) lines f none = refl
-text_behind-moved most n t (heading a) (streaming pattern names g) lines f none =
+text_behind-moved most n t (heading a these) (heading b those) lines f none = refl
+text_behind-moved most n t (heading a these) (streaming pattern names g) lines f none =
     let v = judge most n (streaming pattern names g) lines in
     ap (λ p. text_under p v.updates) (streaming_pattern most n pattern names g lines)
     ∙ sym (text_from-start pattern v.updates)
     ∙ ap (λ h. text_from pattern h 0 v.updates) (sym f)
     ∙ ap (λ t. text_from pattern g t v.updates) (sym none)
-text_behind-moved most n t (streaming pattern names g) (heading b) lines f none = absurd f
+text_behind-moved most n t (streaming pattern names g) (heading b those) lines f none = absurd f
 text_behind-moved most n t (streaming pattern names g) (streaming same later now) lines f none =
     let v = judge most n (streaming same later now) lines in
     ap (λ p. text_from p g t v.updates) (sym f.0) ∙ ap (λ h. text_from same h t v.updates) (sym f.1)
@@ -223,15 +223,15 @@ Reached-accepted most gone text n t pattern same names later g now u line reache
 -- nothing is written for what is not read
 text_behind-ended : (stage : Stage) (t n : ℕ) (stop : Option Status) →
     text_behind stage t (ended n stage stop) ≡ []
-text_behind-ended (heading next) t n stop = refl
+text_behind-ended (heading next names) t n stop = refl
 text_behind-ended (streaming pattern names g) t n stop = refl
 
 ended-end : (stage : Stage) (n : ℕ) (why : Status) → end_of (ended n stage (Some why)) ≡ why
-ended-end (heading next) n why = refl
+ended-end (heading next names) n why = refl
 ended-end (streaming pattern names g) n why = refl
 
 ended-stop : (stage : Stage) (n : ℕ) (stop : Option Status) → (ended n stage stop).stop ≡ stop
-ended-stop (heading next) n stop = refl
+ended-stop (heading next names) n stop = refl
 ended-stop (streaming pattern names g) n stop = refl
 
 module _ (most : ℕ) (gone : List Line) (text : List ℕ) (n t : ℕ) (stage : Stage)

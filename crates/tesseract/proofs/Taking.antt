@@ -99,7 +99,7 @@ pub Takes-moves : (most n : ℕ) (old new : Job) (line : List ℕ) →
     judged most n (stage_of old) line ≡ judged_line n (stage_of old) line →
     Takes n old line (Ok (new, None)) →
     Moves most n (stage_of old) (stamp_of old) line (stage_of new) (stamp_of new) []
-Takes-moves most n (Heading next) new line short taken =
+Takes-moves most n (Heading h) new line short taken =
     record { moved_is = short ∙ taken.0; stamp_of_stage = refl; same_stamp = taken.1; no_text = refl }
 Takes-moves most n (Streaming names m) new line short taken =
     record { moved_is = short ∙ taken.0; stamp_of_stage = tt; same_stamp = taken.1; no_text = refl }
@@ -111,7 +111,7 @@ pub Takes-accepts : (most n : ℕ) (old new : Job) (line : List ℕ) (changes : 
     Accepts most n (stage_of old) (stamp_of old) line (stage_of new) (stamp_of new)
     (delta_text (stamp_of new) (members_of_all changes.rem) (members_of_all changes.add)
     ++ done_text (stamp_of new))
-Takes-accepts most n (Heading next) new line changes short taken = absurd taken
+Takes-accepts most n (Heading h) new line changes short taken = absurd taken
 Takes-accepts most n (Streaming names m) new line changes short taken = record {
   pattern = pattern_of m.program;
   names = names;
@@ -137,5 +137,5 @@ pub Takes-refused : (most n : ℕ) (old : Job) (line : List ℕ) (why : Status) 
     judged most n (stage_of old) line ≡ judged_line n (stage_of old) line →
     Takes n old line (Err (stop.Refused why)) →
     judged most n (stage_of old) line ≡ refused why
-Takes-refused most n (Heading next) line why short taken = short ∙ taken
+Takes-refused most n (Heading h) line why short taken = short ∙ taken
 Takes-refused most n (Streaming names m) line why short taken = short ∙ taken

@@ -19,9 +19,7 @@ use Rattle.tesseract.specs.declared.job.Stop.TheVariants as stop
 use Rattle.tesseract.specs.Reading.{stage_of, stamp_of, changes_text, Takes}
 use Rattle.tesseract.specs.Run.{WritesFront}
 use Rattle.tesseract.specs.Turning.{Advances}
-use Rattle.tesseract.specs.declared.job.Job.TheVariants.{Heading}
-use Rattle.tesseract.specs.declared.header.Awaited.TheVariants as awaited
-use Rattle.tesseract.specs.Job.{Stage, heading, streaming, refused, judged_line, judged, ended}
+use Rattle.tesseract.specs.Job.{Stage, heading, streaming, first_stage, refused, judged_line, judged, ended}
 use Rattle.tesseract.specs.Job.{end_of}
 use Rattle.tesseract.specs.Running.{Running, Ended, Ends, IsEnd}
 use Rattle.tesseract.proofs.Leading.{LeadsOn, Accepts}
@@ -53,7 +51,7 @@ IsStop-end status.ReadFault stop = absurd stop
 IsStop-end status.WriteFault stop = absurd stop
 
 pub end_of-end : (n : ℕ) (stage : Stage) → IsEnd (end_of (ended n stage None))
-end_of-end n (heading next) = tt
+end_of-end n (heading next names) = tt
 end_of-end n (streaming pattern names g) = tt
 
 module _ (stage : Stage) (old new : Reading) (was is : Option (List ℕ)) where
@@ -295,21 +293,24 @@ module _ (old new : Reading) (was is : Option (List ℕ)) (job : Job) (n : ℕ) 
 
 -- a run stands before its first line
 pub StandsBetween-start : (most : ℕ) (left written : Option (List ℕ)) (page : List ℕ)
-    (reader : Reading) (job : Job) → page ≡ [] → job ≡ Heading awaited.Mode →
+    (reader : Reading) (job : Job) → page ≡ [] → stage_of job ≡ first_stage → stamp_of job ≡ 0 →
     reader.line ≡ record { bytes = []; whole = true } → reader.number ≡ 0 → reader.most ≡ most →
     reader.live ≡ true → reader.held ≡ [] →
     StandsBetween most left left written written page reader job
-StandsBetween-start most left written page reader job nothing begun line number most_is live held =
+StandsBetween-start most left written page reader job nothing begun stamp line number most_is live held =
     let running =
     Running-start most left written reader (ap (λ line. line.whole) line) number held in
     subst (λ page. StandsBetween most left left written written page reader job) (sym nothing)
-    (subst (λ job. StandsBetween most left left written written [] reader job) (sym begun) (record {
-      running = running;
+    (record {
+      running =
+          subst (λ stage. Running most left left written written [] reader stage (stamp_of job))
+          (sym begun)
+          (subst (Running most left left written written [] reader first_stage) (sym stamp) running);
       live = live;
       most_is = most_is;
       few = omega (arith, number);
-      stamped = omega arith;
-    }))
+      stamped = omega (arith, stamp);
+    })
 
 -- a run ends behind a line, if it does so from wherever it stands
 pub StandsBetween-ends : (most : ℕ) (left0 left left' written0 written written' : Option (List ℕ))

@@ -5,29 +5,36 @@ use Rattle.std.specs.Option.{unwrap_or}
 use Rattle.graph_types.specs.Graph.{Graph, empty_graph}
 use Rattle.graph_types.specs.declared.update.Update.{Update}
 use Rattle.job_io.specs.Lines.{Line, without_cr, most_line_bytes}
-use Rattle.job_io.specs.Fields.{words_of}
 use Rattle.mining_model.specs.Step.{Refusal, is_loop, no_vertex, vertex_exists, edge_exists, no_edge, step}
-use Rattle.mining_model.specs.Embeddings.{Pattern, every_piece}
+use Rattle.mining_model.specs.Embeddings.{Pattern}
 use Rattle.mining_model.specs.Text.{text_upto}
 use Rattle.update_reader.specs.Names.{Names, first_names}
 use Rattle.update_reader.specs.Grammar.{Said, nothing, commit, update, too_many_labels, bad_line, said}
-use Rattle.tesseract.specs.declared.header.Awaited.{Awaited}
-use Rattle.tesseract.specs.declared.header.Awaited.TheVariants as awaited
-use Rattle.tesseract.specs.declared.header.HeaderStep.{HeaderStep}
-use Rattle.tesseract.specs.declared.header.HeaderStep.TheVariants.{More, Ready}
+use Rattle.cond_eval.specs.Patterns.{pattern_of}
+use Rattle.program_grammar.specs.declared.fault.Refusal.{Refusal as HeaderRefusal}
+use Rattle.program_grammar.specs.declared.fault.Refusal.TheVariants as why
+use Rattle.program_grammar.specs.declared.header.HeaderReader.{HeaderReader}
+use Rattle.program_grammar.specs.declared.header.HeaderReader.TheVariants as header
+use Rattle.program_grammar.specs.declared.header.HeaderStep.{HeaderStep}
+use Rattle.program_grammar.specs.declared.header.HeaderStep.TheVariants.{More, Ready}
+use Rattle.program_grammar.specs.Header.{awaited, header_said}
 use Rattle.tesseract.specs.declared.status.Status.{Status}
 use Rattle.tesseract.specs.declared.status.Status.TheVariants as status
+use Rattle.tesseract.specs.declared.status.ProgramKind.{ProgramKind}
 use Rattle.tesseract.specs.declared.status.ProgramKind.TheVariants as program
 use Rattle.tesseract.specs.declared.status.InputKind.{InputKind}
 use Rattle.tesseract.specs.declared.status.InputKind.TheVariants as input
 use Rattle.tesseract.specs.declared.status.LimitKind.TheVariants as limit
-use Rattle.tesseract.specs.Header.{header_step}
 
--- where the reading of a job stands: in its header, or among its updates, with the names of labels that
--- they used and the graph that they left
+-- where the reading of a job stands: in its header, or among its updates; with the names of the labels
+-- that were used so far, and the graph that the updates left
 pub data Stage : Type 0 where
-  heading : Awaited → Stage
+  heading : HeaderReader → Names → Stage
   streaming : Pattern → Names → Graph → Stage
+
+-- before the first line
+abbrev pub first_stage : Stage
+first_stage = heading header.Mode first_names
 
 -- what a line does: it is refused, it leads on, or it is an update that the graph accepts
 pub data Judged : Type 0 where
@@ -35,11 +42,19 @@ pub data Judged : Type 0 where
   moved : Stage → Judged
   accepted : Update → Pattern → Names → Graph → Judged
 
--- a line of the header, where it has a form
-abbrev pub judged_header : ℕ → Option HeaderStep → Judged
-judged_header n None = refused (status.BadProgram n program.BadLine)
-judged_header n (Some (More next)) = moved (heading next)
-judged_header n (Some (Ready size)) = moved (streaming (every_piece size) first_names empty_graph)
+-- the kind of a refusal of a header
+abbrev pub program_kind_of : HeaderRefusal → ProgramKind
+program_kind_of why.BadLine = program.BadLine
+program_kind_of why.SizeRange = program.SizeRange
+program_kind_of why.TooLong = program.TooLong
+program_kind_of why.TooDeep = program.TooDeep
+program_kind_of why.NotFalling = program.NotFalling
+
+-- a line of the header, by what it says
+abbrev pub judged_header : ℕ → Result (HeaderStep × Names) HeaderRefusal → Judged
+judged_header n (Ok (More next, names)) = moved (heading next names)
+judged_header n (Ok (Ready program, names)) = moved (streaming (pattern_of program) names empty_graph)
+judged_header n (Err refusal) = refused (status.BadProgram n (program_kind_of refusal))
 
 -- the kind of a refusal by the graph
 abbrev pub kind_of : Refusal → InputKind
@@ -65,8 +80,8 @@ judged_said n pattern names g bad_line = refused (status.BadInput n input.BadLin
 
 -- line n, which has at most the bytes that a line may have
 abbrev pub judged_line : ℕ → Stage → List ℕ → Judged
-judged_line n (heading next) bytes =
-    judged_header n (header_step next (words_of (without_cr bytes)))
+judged_line n (heading next names) bytes =
+    judged_header n (header_said next (without_cr bytes) names)
 judged_line n (streaming pattern names g) bytes =
     judged_said n pattern names g (said names (without_cr bytes))
 
@@ -87,12 +102,12 @@ pub record Verdict : Type 0 where
 
 -- nothing more is read behind n lines
 abbrev pub ended : ℕ → Stage → Option Status → Verdict
-ended n (heading next) stop =
+ended n (heading next names) stop =
     record {
       pattern = None;
       updates = [];
       stop = stop;
-      close = status.BadProgram n program.BadLine;
+      close = status.BadProgram n (program.Missing (awaited next));
     }
 ended n (streaming pattern names g) stop =
     record { pattern = Some pattern; updates = []; stop = stop; close = status.Ok }
@@ -116,7 +131,7 @@ judge most n stage (line ∷ lines) =
 
 -- the verdict on a whole job
 abbrev pub verdict : ℕ → List Line → Verdict
-verdict most lines = judge most 0 (heading awaited.Mode) lines
+verdict most lines = judge most 0 first_stage lines
 
 -- how a job ends
 abbrev pub end_of : Verdict → Status

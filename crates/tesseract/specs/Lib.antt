@@ -1,11 +1,13 @@
-pub mod Size
 pub mod Status
-pub mod Header
+pub mod HeaderSoFar
+pub mod HeaderLine
 pub mod Mining
 pub mod Miner
 pub mod Job
 pub mod Reading
 pub mod Progress
 pub mod Run
+pub mod Fold
+pub mod Commands
 pub mod Running
 pub mod Turning

@@ -7,7 +7,7 @@ use Rattle.tesseract.specs.Job.{text_of, text_under, end_of}
 
 -- the text of a verdict on what follows a stage that t timestamps led to
 abbrev pub text_behind : Stage → ℕ → Verdict → List ℕ
-text_behind (heading next) t v = text_under v.pattern v.updates
+text_behind (heading next names) t v = text_under v.pattern v.updates
 text_behind (streaming pattern names g) t v = text_from pattern g t v.updates
 
 -- After these n lines the job stands at a stage, with t timestamps whose text this is: whatever

@@ -4,14 +4,15 @@ use Rattle.graph_types.specs.Graph.{Graph}
 use Rattle.graph_types.specs.Piece.{members_of_all}
 use Rattle.graph_types.specs.declared.update.Update.{Update}
 use Rattle.job_io.specs.Lines.{without_cr}
-use Rattle.job_io.specs.Fields.{words_of}
 use Rattle.mining_model.specs.Step.{Refusal}
 use Rattle.cond_eval.specs.Patterns.{pattern_of}
 use Rattle.mining_model.specs.Changes.{gone, come}
 use Rattle.mining_model.specs.Text.{delta_text, done_text}
 use Rattle.update_reader.specs.Names.{Names}
 use Rattle.update_reader.specs.Grammar.{said}
-use Rattle.tesseract.specs.declared.header.Awaited.{Awaited}
+use Rattle.program_grammar.specs.declared.fault.ProgramFault.{ProgramFault}
+use Rattle.program_grammar.specs.declared.fault.ProgramFault.TheVariants as fault
+use Rattle.program_grammar.specs.Header.{header_said}
 use Rattle.tesseract.specs.declared.miner.Changes.{Changes}
 use Rattle.tesseract.specs.declared.job.Job.{Job}
 use Rattle.tesseract.specs.declared.job.Job.TheVariants.{Heading, Streaming}
@@ -21,19 +22,20 @@ use Rattle.update_rules.specs.declared.StepFault.{StepFault}
 use Rattle.update_rules.specs.Steps.{IsReason}
 use Rattle.tesseract.specs.declared.status.Status.{Status}
 use Rattle.tesseract.specs.declared.status.Status.TheVariants as status
-use Rattle.tesseract.specs.Header.{header_step}
+use Rattle.tesseract.specs.declared.status.ProgramKind.TheVariants as program
+use Rattle.tesseract.specs.HeaderSoFar.{HeaderSoFar}
 use Rattle.tesseract.specs.Mining.{Mining}
 use Rattle.tesseract.specs.Job.{Stage, heading, streaming, kind_of, judged_header, judged_said}
 use Rattle.tesseract.specs.Job.{refused, moved, accepted}
 
 -- where the reading of a job stands
 abbrev pub stage_of : Job → Stage
-stage_of (Heading next) = heading next
+stage_of (Heading h) = heading h.reader h.names
 stage_of (Streaming names m) = streaming (pattern_of m.program) names m.graph
 
 -- its last timestamp, or 0
 abbrev pub stamp_of : Job → ℕ
-stamp_of (Heading next) = 0
+stamp_of (Heading h) = 0
 stamp_of (Streaming names m) = m.stamp
 
 -- The job ends at line n, since the graph refused an update so.
@@ -72,18 +74,28 @@ TakesUpdate n names m text (Err stop.NoMemory) = Unit {0}
 TakesUpdate n names m text (Err (stop.Refused why)) =
     judged_said n (pattern_of m.program) names m.graph (said names text) ≡ refused why
 
+-- How the job ends at line n of its header, where this fault was found in it.
+abbrev pub header_stop : ℕ → ProgramFault → Stop
+header_stop n (fault.BadLine line) = stop.Refused (status.BadProgram n program.BadLine)
+header_stop n (fault.Missing word) = stop.Refused (status.BadProgram n (program.Missing word))
+header_stop n (fault.SizeRange line) = stop.Refused (status.BadProgram n program.SizeRange)
+header_stop n (fault.TooDeep line) = stop.Refused (status.BadProgram n program.TooDeep)
+header_stop n (fault.TooLong line) = stop.Refused (status.BadProgram n program.TooLong)
+header_stop n (fault.NotFalling line) = stop.Refused (status.BadProgram n program.NotFalling)
+header_stop n fault.NoMemory = stop.NoMemory
+
 -- Line n of a header leads on, or is refused.
-abbrev pub TakesHeader : ℕ → Awaited → List ℕ → Result (Job × Option Changes) Stop → Type 0
-TakesHeader n next text (Ok (job, None)) =
-    (judged_header n (header_step next (words_of text)) ≡ moved (stage_of job)) × (stamp_of job ≡ 0)
-TakesHeader n next text (Ok (job, Some changes)) = ⊥
-TakesHeader n next text (Err stop.NoMemory) = Unit {0}
-TakesHeader n next text (Err (stop.Refused why)) =
-    judged_header n (header_step next (words_of text)) ≡ refused why
+abbrev pub TakesHeader : ℕ → HeaderSoFar → List ℕ → Result (Job × Option Changes) Stop → Type 0
+TakesHeader n h text (Ok (job, None)) =
+    (judged_header n (header_said h.reader text h.names) ≡ moved (stage_of job)) × (stamp_of job ≡ 0)
+TakesHeader n h text (Ok (job, Some changes)) = ⊥
+TakesHeader n h text (Err stop.NoMemory) = Unit {0}
+TakesHeader n h text (Err (stop.Refused why)) =
+    judged_header n (header_said h.reader text h.names) ≡ refused why
 
 -- Line n, with its CR, is taken by a job.
 abbrev pub Takes : ℕ → Job → List ℕ → Result (Job × Option Changes) Stop → Type 0
-Takes n (Heading next) line result = TakesHeader n next (without_cr line) result
+Takes n (Heading h) line result = TakesHeader n h (without_cr line) result
 Takes n (Streaming names m) line result = TakesUpdate n names m (without_cr line) result
 
 -- the text of a timestamp with these changes; nothing where there is none

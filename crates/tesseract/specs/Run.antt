@@ -1,17 +1,11 @@
 -- What a run leaves: on its sink, by how it ended, and on standard error.
-use Rattle.std.specs.Prelude.{◌≡◌, ℕ, ◌⊎◌, Bool, false, List, [], ◌∷◌, ◌++◌, codes, Option, None}
+use Rattle.std.specs.Prelude.{◌≡◌, ℕ, ◌⊎◌, List, ◌++◌, Option, None}
 use Rattle.std.specs.Io.KnownBytes.{Appends}
-use Rattle.std.specs.Str.{bytes_eq}
 use Rattle.job_io.specs.Ends.{BothKnown, AppendsFront, Rose}
 use Rattle.job_io.specs.Lines.{lines_of, whole_lines_of}
 use Rattle.tesseract.specs.declared.status.Status.{Status}
 use Rattle.tesseract.specs.declared.status.Status.TheVariants as status
 use Rattle.tesseract.specs.Job.{verdict, text_of, end_of}
-
--- the words are just `mine`
-abbrev pub is_mine : List (List ℕ) → Bool
-is_mine (word ∷ []) = bytes_eq word (codes "mine")
-is_mine words = false
 
 -- The whole input was judged: this is its text, and this is how its job ends.
 pub record IsJob (most : ℕ) (bytes text : List ℕ) (why : Status) : Type 0 where

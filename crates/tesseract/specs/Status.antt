@@ -1,5 +1,7 @@
 -- What is said of how a run ended.
 use Rattle.std.specs.Prelude.{ℕ, List, [], ◌++◌, codes, decimal}
+use Rattle.program_grammar.specs.declared.header.Word.{Word}
+use Rattle.program_grammar.specs.declared.header.Word.TheVariants as word
 use Rattle.tesseract.specs.declared.status.Status.{Status}
 use Rattle.tesseract.specs.declared.status.Status.TheVariants as status
 use Rattle.tesseract.specs.declared.status.ProgramKind.{ProgramKind}
@@ -20,9 +22,22 @@ number_of (status.Limit kind at) = 5
 number_of status.ReadFault = 6
 number_of status.WriteFault = 7
 
+-- a word as a header has it
+abbrev pub word_text : Word → List ℕ
+word_text word.Mode = codes "mode"
+word_text word.Size = codes "size"
+word_text word.Filter = codes "filter"
+word_text word.Match = codes "match"
+word_text word.Begin = codes "begin"
+
 -- the name of a kind
 abbrev pub program_kind : ProgramKind → List ℕ
 program_kind program.BadLine = codes "BadLine"
+program_kind (program.Missing word) = codes "Missing " ++ word_text word
+program_kind program.SizeRange = codes "SizeRange"
+program_kind program.TooDeep = codes "TooDeep"
+program_kind program.TooLong = codes "TooLong"
+program_kind program.NotFalling = codes "NotFalling"
 
 abbrev pub input_kind : InputKind → List ℕ
 input_kind input.BadLine = codes "BadLine"
@@ -31,6 +46,11 @@ input_kind (input.NoVertex v) = codes "NoVertex " ++ decimal v
 input_kind input.VertexExists = codes "VertexExists"
 input_kind input.EdgeExists = codes "EdgeExists"
 input_kind input.NoEdge = codes "NoEdge"
+input_kind input.MixedModes = codes "MixedModes"
+input_kind input.OutOfOrder = codes "OutOfOrder"
+input_kind input.AddsPresent = codes "AddsPresent"
+input_kind input.RemovesAbsent = codes "RemovesAbsent"
+input_kind input.NotDone = codes "NotDone"
 
 abbrev pub limit_kind : LimitKind → List ℕ
 limit_kind limit.Lines = codes "Lines"

@@ -1,79 +1,71 @@
-ghost use Rattle.std.specs.Prelude.{◌≡◌};
-ghost use Rattle.job_io.specs.Fields.{words_of};
-ghost use Rattle.tesseract.specs.Header.{header_step, size_said};
-ghost use Rattle.tesseract.specs.Header.{is_word as is_word_of, is_pair as is_pair_of};
+ghost use Rattle.std.specs.Prelude.{◌≡◌, IfOk};
+ghost use Rattle.update_reader.specs.Names.{first_names};
+ghost use Rattle.program_grammar.specs.Header.{awaited};
+ghost use Rattle.tesseract.specs.HeaderLine.{HeadsOn};
 
-use crate::size::Size;
-use job_io::{word, words};
+use filter_polarity::Program;
+use graph_types::NoMemory;
+use program_grammar::{HeaderReader, HeaderStep, ProgramFault, Word};
+use std::alloc::Global;
+use std::marker::Model;
+use update_reader::Names;
 
-/// Which line of the header comes next, and what the lines before it said.
-#[derive(Debug, Drop)]
-pub enum Awaited {
-    Mode,
-    Size,
-    Filter { size: Size },
-    Match { size: Size },
-    Begin { size: Size },
+/// A header that is being read, and the names of the labels in it. There is always room for those of the
+/// conditions to come, whatever they are.
+#[derive(Drop)]
+pub struct Header {
+    reader: HeaderReader,
+    names: Names,
+}
+
+impl Model for Header {
+    ghost use Rattle.program_grammar.specs.contracts.header.HeaderReader as readers;
+    ghost use Rattle.program_grammar.specs.Programs.{RoomFor};
+    ghost use Rattle.tesseract.specs.HeaderSoFar.{HeaderSoFar, header_code};
+
+    ghost Value = { HeaderSoFar };
+
+    ghost coded = { header_code readers.the_row.coded };
+
+    ghost view = { λ h. record { reader = h.reader; names = h.names } };
+
+    ghost invariant = { λ h. RoomFor h.reader h.names };
 }
 
 /// What a line of the header leads to.
-#[derive(Debug, Drop)]
-pub enum HeaderStep {
-    More(Awaited),
-    Ready { size: Size },
+#[derive(Drop)]
+pub enum HeaderTurn {
+    More(Header),
+    Ready(Names, Program),
 }
 
-impl Awaited {
-    /// Takes the awaited line, whose CR was dropped. `None` where it has another form.
-    pub fn take(self, line: &[u8]) -> Option<HeaderStep>
-        ensures { result ≡ header_step self (words_of line.now) }
+impl Header {
+    /// A header of which no line was read.
+    pub fn new(alloc: Global) -> Result<Header, NoMemory>
+        ensures { IfOk result (λ h. h ≡ record { reader = HeaderReader.Mode; names = first_names }) }
     {
-        match self {
-            Awaited::Mode => is_pair(line, b"mode", b"vertex").then_some(HeaderStep::More(
-                Awaited::Size,
-            )),
-            Awaited::Size => {
-                let size = read_size(line)?;
-                Some(HeaderStep::More(Awaited::Filter { size }))
-            }
-            Awaited::Filter { size } => {
-                is_pair(line, b"filter", b"true").then_some(HeaderStep::More(Awaited::Match {
-                    size,
-                }))
-            }
-            Awaited::Match { size } => {
-                is_pair(line, b"match", b"true").then_some(HeaderStep::More(Awaited::Begin {
-                    size,
-                }))
-            }
-            Awaited::Begin { size } => is_word(line, b"begin").then_some(HeaderStep::Ready {
-                size,
-            }),
+        Ok(Header {
+            reader: HeaderReader::new(),
+            names: Names::new(alloc)?,
+        })
+    }
+
+    /// The first word that no line has begun with yet.
+    pub fn missing(&self) -> Word
+        ensures { result ≡ awaited self.now.reader }
+    {
+        self.reader.missing()
+    }
+
+    /// Takes line `number`, whose CR was dropped.
+    pub fn take(self, alloc: Global, number: u64, line: &[u8]) -> Result<HeaderTurn, ProgramFault>
+        ensures { HeadsOn number self line.now result }
+    {
+        let Header { reader, mut names } = self;
+        match reader.take(alloc, line, number, &mut names) {
+            Ok(HeaderStep::More(reader)) => Ok(HeaderTurn::More(Header { reader, names })),
+            Ok(HeaderStep::Ready(program)) => Ok(HeaderTurn::Ready(names, program)),
+            Err(fault) => Err(fault),
         }
     }
-}
-
-/// The word `size` and a digit from 1 to 8.
-fn read_size(line: &[u8]) -> Option<Size>
-    ensures { result ≡ size_said (words_of line.now) }
-{
-    if words(line) != 2 || word(line, 0)? != b"size".as_slice() {
-        return None;
-    }
-    match word(line, 1)? {
-        [digit] => Size::of_digit(*digit),
-        _ => None,
-    }
-}
-
-fn is_word(line: &[u8], text: &[u8]) -> bool
-    ensures { result ≡ is_word_of text.now (words_of line.now) }
-{
-    words(line) == 1 && word(line, 0) == Some(text)
-}
-
-fn is_pair(line: &[u8], first: &[u8], second: &[u8]) -> bool
-    ensures { result ≡ is_pair_of first.now second.now (words_of line.now) }
-{
-    words(line) == 2 && word(line, 0) == Some(first) && word(line, 1) == Some(second)
 }

@@ -1,14 +1,14 @@
-ghost use Rattle.std.specs.Prelude.{◌≡◌, ◌<◌, None};
-ghost use Rattle.tesseract.specs.Job.{ended, end_of};
-ghost use Rattle.tesseract.specs.Reading.{stage_of, stamp_of, StopsFor};
+ghost use Rattle.std.specs.Prelude.{◌≡◌, ◌<◌, IfOk, None};
+ghost use Rattle.tesseract.specs.Job.{ended, end_of, first_stage};
+ghost use Rattle.tesseract.specs.Reading.{header_stop, stage_of, stamp_of, StopsFor};
 ghost use Rattle.tesseract.specs.Reading.{Takes, TakesHeader, TakesUpdate};
 
-use crate::every_piece::every_piece;
-use crate::header::{Awaited, HeaderStep};
+use crate::header::{Header, HeaderTurn};
 use crate::miner::{Changes, Miner};
 use crate::status::{InputKind, LimitKind, ProgramKind, Status};
 use graph_types::{NoMemory, Stamp};
 use job_io::without_cr;
+use program_grammar::ProgramFault;
 use std::alloc::Global;
 use update_reader::{Item, Names, UpdateFault, read_line};
 use update_rules::StepFault;
@@ -16,7 +16,7 @@ use update_rules::StepFault;
 /// A job that is being read: its header, and then its updates.
 #[derive(Drop)]
 pub enum Job {
-    Heading(Awaited),
+    Heading(Header),
     Streaming(Names, Miner),
 }
 
@@ -31,10 +31,11 @@ pub enum Stop {
 
 impl Job {
     /// A job of which nothing was read.
-    pub fn new() -> Job
-        ensures { result ≡ Job.Heading Awaited.Mode }
+    pub fn new(alloc: Global) -> Result<Job, NoMemory>
+        ensures stage { IfOk result (λ job. stage_of job ≡ first_stage) }
+        ensures stamp { IfOk result (λ job. stamp_of job ≡ 0) }
     {
-        Job::Heading(Awaited::Mode)
+        Ok(Job::Heading(Header::new(alloc)?))
     }
 
     /// The last timestamp, or 0.
@@ -52,9 +53,9 @@ impl Job {
         ensures { result ≡ end_of (ended number (stage_of self.now) None) }
     {
         match self {
-            Job::Heading(_) => Status::BadProgram {
+            Job::Heading(header) => Status::BadProgram {
                 line: number,
-                kind: ProgramKind::BadLine,
+                kind: ProgramKind::Missing(header.missing()),
             },
             Job::Streaming(_, _) => Status::Ok,
         }
@@ -73,7 +74,7 @@ impl Job {
     {
         let text = without_cr(line);
         match self {
-            Job::Heading(awaited) => take_header(alloc, awaited, number, text),
+            Job::Heading(header) => take_header(alloc, header, number, text),
             Job::Streaming(names, miner) => take_update(alloc, names, miner, number, text),
         }
     }
@@ -81,26 +82,36 @@ impl Job {
 
 fn take_header(
     alloc: Global,
-    awaited: Awaited,
+    header: Header,
     line: u64,
     text: &[u8],
 ) -> Result<(Job, Option<Changes>), Stop>
-    ensures { TakesHeader line awaited text.now result }
+    ensures { TakesHeader line header text.now result }
 {
-    match awaited.take(text) {
-        Some(HeaderStep::More(next)) => Ok((Job::Heading(next), None)),
-        Some(HeaderStep::Ready { size }) => match Names::new(alloc) {
-            Ok(names) => {
-                let miner = Miner::new(alloc, every_piece(size));
-                Ok((Job::Streaming(names, miner), None))
-            }
-            Err(NoMemory) => Err(Stop::NoMemory),
-        },
-        None => Err(Stop::Refused(Status::BadProgram {
-            line,
-            kind: ProgramKind::BadLine,
-        })),
+    match header.take(alloc, line, text) {
+        Ok(HeaderTurn::More(next)) => Ok((Job::Heading(next), None)),
+        Ok(HeaderTurn::Ready(names, program)) => {
+            let miner = Miner::new(alloc, program);
+            Ok((Job::Streaming(names, miner), None))
+        }
+        Err(fault) => Err(stop_in_header(line, fault)),
     }
+}
+
+/// How the job ends at a line of the header that is refused.
+fn stop_in_header(line: u64, fault: ProgramFault) -> Stop
+    ensures { result ≡ header_stop line fault }
+{
+    let kind = match fault {
+        ProgramFault::BadLine(_) => ProgramKind::BadLine,
+        ProgramFault::Missing(word) => ProgramKind::Missing(word),
+        ProgramFault::SizeRange(_) => ProgramKind::SizeRange,
+        ProgramFault::TooDeep(_) => ProgramKind::TooDeep,
+        ProgramFault::TooLong(_) => ProgramKind::TooLong,
+        ProgramFault::NotFalling(_) => ProgramKind::NotFalling,
+        ProgramFault::NoMemory => return Stop::NoMemory,
+    };
+    Stop::Refused(Status::BadProgram { line, kind })
 }
 
 fn take_update(

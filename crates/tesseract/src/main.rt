@@ -1,14 +1,17 @@
 //! Mines patterns in a graph that changes: reads a program and a stream of updates from standard
-//! input, and writes what each update takes away and brings to standard output.
+//! input, and writes what each update takes away and brings to standard output. Or reads such records
+//! back, and writes the pieces that are there at a timestamp.
 #![tactic(auto)]
 
-mod every_piece;
+mod fold;
+#[cfg(test)]
+mod fold_tests;
 mod header;
 mod job;
+mod laws;
 mod mine;
 mod miner;
 mod run;
-mod size;
 mod status;
 #[cfg(test)]
 mod tests;

@@ -62,7 +62,9 @@ fn mine_lines<S: Source, O: Sink>(
     let Ok(mut reader) = LineReader::new(alloc, most) else {
         return Ok(Status::NoMemory);
     };
-    let mut job = Job::new();
+    let Ok(mut job) = Job::new(alloc) else {
+        return Ok(Status::NoMemory);
+    };
     'lines: loop {
         match take_line(alloc, &mut reader, job, page, input, out)? {
             Turn::More(next) => job = next,

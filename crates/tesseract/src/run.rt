@@ -1,10 +1,15 @@
-ghost use Rattle.std.specs.Prelude.{◌≡◌, ◌↔◌, false, true, map, string_bytes};
+ghost use Rattle.std.specs.Prelude.{◌≡◌, ◌↔◌, ℕ, IsTrue, None, Option, Some, map, string_bytes};
+ghost use Rattle.command_words.specs.Words.{command_of};
 ghost use Rattle.job_io.specs.Ends.{Rose};
-ghost use Rattle.tesseract.specs.Run.{Mines, Tells, is_mine};
+ghost use Rattle.tesseract.specs.Commands.{fold_command, is_still as is_still_of, mine_command};
+ghost use Rattle.tesseract.specs.Fold.{Folds};
+ghost use Rattle.tesseract.specs.Run.{Mines, Tells};
 ghost use Rattle.tesseract.specs.Status.{line_of};
 
+use crate::fold::fold;
 use crate::mine::mine;
 use crate::status::Status;
+use command_words::{WordsFault, read_words};
 use graph_types::Gate;
 use job_io::{Sink, Source, put_all};
 use std::alloc::Global;
@@ -13,6 +18,9 @@ use std::thread::Threads;
 
 /// How many lines a job may have.
 pub const MOST_LINES: u64 = 4_000_000_000;
+
+/// How many lines a text of records may have.
+pub const MOST_RECORD_LINES: u64 = 4_000_000_000_000;
 
 /// Does what the words of the command line say, with these ends, and tells on `err` how it ended if
 /// it didn't end well. `rt` and `gate` are for commands with several threads; there are none yet.
@@ -25,14 +33,19 @@ pub fn run<R: Wait + Threads, S: Source, O: Sink, E: Sink, G: Gate>(
     err: &mut E,
     _gate: &G,
 ) -> Status
-    // The one command is `mine`, with no further word.
-    ensures usage { result ≡ Status.Usage ↔ (is_mine (map string_bytes words.now) ≡ false) }
+    // Words that give no command do nothing.
+    ensures usage { result ≡ Status.Usage ↔ (command_of (map string_bytes words.now) ≡ None) }
     ensures usage_does_nothing { result ≡ Status.Usage →
         (input.new ≡ input.old) × (out.new ≡ out.old) }
 
-    // It writes the text of the job, and its status is how the job ends.
-    ensures mined { is_mine (map string_bytes words.now) ≡ true →
+    // `mine` writes the text of the job, and its status is how the job ends.
+    ensures mined { command_of (map string_bytes words.now) ≡ Some mine_command →
         Mines MOST_LINES (S.left input.old) (S.left input.new)
+        (O.written out.old) (O.written out.new) result }
+
+    // `fold` writes the pieces that the records tell of.
+    ensures folded { (at : Option ℕ) → command_of (map string_bytes words.now) ≡ Some (fold_command at) →
+        Folds MOST_RECORD_LINES at (S.left input.old) (S.left input.new)
         (O.written out.old) (O.written out.new) result }
     ensures read_cause { result ≡ Status.ReadFault →
         Rose (S.faults input.old) (S.faults input.new) }
@@ -42,47 +55,71 @@ pub fn run<R: Wait + Threads, S: Source, O: Sink, E: Sink, G: Gate>(
     ensures told { Tells (E.written err.old) (E.written err.new)
         (E.faults err.old) (E.faults err.new) (line_of result) }
 {
-    let status = carry_out(alloc, words, input, out);
-    tell(err, &status);
-    status
+    if is_still(words) {
+        return run_still(alloc, words, input, out, err);
+    }
+    match read_words(alloc, words) {
+        Ok(_) => tell(err, mine(alloc, MOST_LINES, input, out)),
+        Err(fault) => tell(err, words_status(fault)),
+    }
 }
 
-fn carry_out<S: Source, O: Sink>(
+/// Does what the words of a command say that works on one thread: `fold`. It waits for nobody, and
+/// always returns.
+pub fn run_still<S: Source, O: Sink, E: Sink>(
     alloc: Global,
     words: &[String],
     input: &mut S,
     out: &mut O,
+    err: &mut E,
 ) -> Status
-    ensures usage { result ≡ Status.Usage ↔ (is_mine (map string_bytes words.now) ≡ false) }
+    requires { IsTrue (is_still_of (map string_bytes words.now)) }
+    ensures usage { result ≡ Status.Usage ↔ (command_of (map string_bytes words.now) ≡ None) }
     ensures usage_does_nothing { result ≡ Status.Usage →
         (input.new ≡ input.old) × (out.new ≡ out.old) }
-    ensures mined { is_mine (map string_bytes words.now) ≡ true →
-        Mines MOST_LINES (S.left input.old) (S.left input.new)
+    ensures folded { (at : Option ℕ) → command_of (map string_bytes words.now) ≡ Some (fold_command at) →
+        Folds MOST_RECORD_LINES at (S.left input.old) (S.left input.new)
         (O.written out.old) (O.written out.new) result }
     ensures read_cause { result ≡ Status.ReadFault →
         Rose (S.faults input.old) (S.faults input.new) }
     ensures write_cause { result ≡ Status.WriteFault → Rose (O.faults out.old) (O.faults out.new) }
+    ensures told { Tells (E.written err.old) (E.written err.new)
+        (E.faults err.old) (E.faults err.new) (line_of result) }
 {
-    if says_mine(words) {
-        mine(alloc, MOST_LINES, input, out)
-    } else {
-        Status::Usage
+    match read_words(alloc, words) {
+        Ok(command) => tell(
+            err,
+            fold(alloc, MOST_RECORD_LINES, command.options.at, input, out),
+        ),
+        Err(fault) => tell(err, words_status(fault)),
     }
 }
 
-fn says_mine(words: &[String]) -> bool
-    ensures { result ≡ is_mine (map string_bytes words.now) }
+fn is_still(words: &[String]) -> bool
+    ensures { result ≡ is_still_of (map string_bytes words.now) }
 {
     match words {
-        [word] => word.as_str() == "mine",
-        _ => false,
+        [word, ..] => word.as_str() == "fold",
+        [] => false,
     }
 }
 
-/// Tells a status. Where this fails too, there is nobody left to tell.
-fn tell<E: Sink>(err: &mut E, status: &Status)
-    ensures { Tells (E.written err.old) (E.written err.new)
-        (E.faults err.old) (E.faults err.new) (line_of status.now) }
+fn words_status(fault: WordsFault) -> Status
+    ensures usage { fault ≡ WordsFault.Usage → result ≡ Status.Usage }
+    ensures no_memory { fault ≡ WordsFault.NoMemory → result ≡ Status.NoMemory }
+{
+    match fault {
+        WordsFault::Usage => Status::Usage,
+        WordsFault::NoMemory => Status::NoMemory,
+    }
+}
+
+/// Tells a status, and gives it back. Where this fails too, there is nobody left to tell.
+fn tell<E: Sink>(err: &mut E, status: Status) -> Status
+    ensures same { result ≡ status }
+    ensures told { Tells (E.written err.old) (E.written err.new)
+        (E.faults err.old) (E.faults err.new) (line_of status) }
 {
     let _ = put_all(err, status.line().as_slice());
+    status
 }

@@ -1,8 +1,9 @@
 ghost use Rattle.std.specs.Prelude.{◌≡◌, ◌≤◌, ◌++◌, length, codes, decimal};
-ghost use Rattle.tesseract.specs.Status.{program_kind, input_kind, limit_kind};
+ghost use Rattle.tesseract.specs.Status.{word_text, program_kind, input_kind, limit_kind};
 
 use graph_types::VertexId;
 use job_io::ShortLine;
+use program_grammar::Word;
 
 /// How a run ended.
 #[derive(Clone, Copy, Debug, PartialEq, Eq)]
@@ -28,14 +29,24 @@ pub enum Status {
 /// What is wrong with a header.
 #[derive(Clone, Copy, Debug, PartialEq, Eq)]
 pub enum ProgramKind {
-    /// A line has another form than the next one of a header, or none came.
+    /// A line has another form than the next one of a header.
     BadLine,
+    /// The input ends before the line that begins with this word.
+    Missing(Word),
+    /// The size is a number, and not 1 to 8.
+    SizeRange,
+    /// More than 32 `not` and parentheses are open at once in a condition.
+    TooDeep,
+    /// A condition has more than 512 tokens.
+    TooLong,
+    /// The filter is not falling in the mode.
+    NotFalling,
 }
 
-/// What is wrong with a line of the stream.
+/// What is wrong with a line of the stream, or with a line of the records.
 #[derive(Clone, Copy, Debug, PartialEq, Eq)]
 pub enum InputKind {
-    /// It is no update.
+    /// It is no update, or no record.
     BadLine,
     /// Both ends of an edge are the same vertex.
     Loop,
@@ -47,12 +58,22 @@ pub enum InputKind {
     EdgeExists,
     /// The edge that is to be removed or labelled is absent.
     NoEdge,
+    /// The piece of a record is of another mode than the first one.
+    MixedModes,
+    /// A record isn't in its place among the others.
+    OutOfOrder,
+    /// The piece that is to come is there.
+    AddsPresent,
+    /// The piece that is to go isn't there.
+    RemovesAbsent,
+    /// The records end, and the timestamp that was named isn't done.
+    NotDone,
 }
 
 /// What is limited.
 #[derive(Clone, Copy, Debug, PartialEq, Eq)]
 pub enum LimitKind {
-    /// The lines of a job.
+    /// The lines of a job, or of records.
     Lines,
     /// The names of labels.
     Labels,
@@ -103,7 +124,29 @@ impl ProgramKind {
     {
         match self {
             ProgramKind::BadLine => phrase(b"BadLine"),
+            ProgramKind::Missing(word) => {
+                let mut name = phrase(b"Missing ");
+                name.push(word_bytes(*word));
+                name
+            }
+            ProgramKind::SizeRange => phrase(b"SizeRange"),
+            ProgramKind::TooDeep => phrase(b"TooDeep"),
+            ProgramKind::TooLong => phrase(b"TooLong"),
+            ProgramKind::NotFalling => phrase(b"NotFalling"),
         }
+    }
+}
+
+/// A word as a header has it.
+fn word_bytes(word: Word) -> &'static [u8]
+    ensures { result.now ≡ word_text word }
+{
+    match word {
+        Word::Mode => b"mode",
+        Word::Size => b"size",
+        Word::Filter => b"filter",
+        Word::Match => b"match",
+        Word::Begin => b"begin",
     }
 }
 
@@ -123,6 +166,11 @@ impl InputKind {
             InputKind::VertexExists => phrase(b"VertexExists"),
             InputKind::EdgeExists => phrase(b"EdgeExists"),
             InputKind::NoEdge => phrase(b"NoEdge"),
+            InputKind::MixedModes => phrase(b"MixedModes"),
+            InputKind::OutOfOrder => phrase(b"OutOfOrder"),
+            InputKind::AddsPresent => phrase(b"AddsPresent"),
+            InputKind::RemovesAbsent => phrase(b"RemovesAbsent"),
+            InputKind::NotDone => phrase(b"NotDone"),
         }
     }
 }

@@ -1,10 +1,11 @@
 ghost use Rattle.std.specs.Prelude.{◌≤◌};
 
 use crate::mine::mine;
-use crate::run::run;
+use crate::run::{run, run_still};
 use crate::status::{InputKind, LimitKind, ProgramKind, Status};
 use graph_types::{FreeGate, NoMemory, VertexId};
 use job_io::{ByteList, CallList, MemorySink, MemorySource};
+use program_grammar::Word;
 use std::alloc::Global;
 use std::sync::Wait;
 use std::test::Fail;
@@ -134,7 +135,7 @@ fn stops_before_one_line_too_many(rt: HostRuntime) -> Result<(), Fail> {
     Ok(())
 }
 
-const STATUSES: [(Status, u8, &[u8]); 15] = [
+const STATUSES: [(Status, u8, &[u8]); 29] = [
     (Status::Ok, 0, b""),
     (Status::NoMemory, 1, b"no memory\n"),
     (
@@ -149,6 +150,78 @@ const STATUSES: [(Status, u8, &[u8]); 15] = [
         },
         3,
         b"program: line 0: BadLine\n",
+    ),
+    (
+        Status::BadProgram {
+            line: 4,
+            kind: ProgramKind::Missing(Word::Mode),
+        },
+        3,
+        b"program: line 4: Missing mode\n",
+    ),
+    (
+        Status::BadProgram {
+            line: 4,
+            kind: ProgramKind::Missing(Word::Size),
+        },
+        3,
+        b"program: line 4: Missing size\n",
+    ),
+    (
+        Status::BadProgram {
+            line: 4,
+            kind: ProgramKind::Missing(Word::Filter),
+        },
+        3,
+        b"program: line 4: Missing filter\n",
+    ),
+    (
+        Status::BadProgram {
+            line: 4,
+            kind: ProgramKind::Missing(Word::Match),
+        },
+        3,
+        b"program: line 4: Missing match\n",
+    ),
+    (
+        Status::BadProgram {
+            line: 4,
+            kind: ProgramKind::Missing(Word::Begin),
+        },
+        3,
+        b"program: line 4: Missing begin\n",
+    ),
+    (
+        Status::BadProgram {
+            line: 4,
+            kind: ProgramKind::SizeRange,
+        },
+        3,
+        b"program: line 4: SizeRange\n",
+    ),
+    (
+        Status::BadProgram {
+            line: 4,
+            kind: ProgramKind::TooDeep,
+        },
+        3,
+        b"program: line 4: TooDeep\n",
+    ),
+    (
+        Status::BadProgram {
+            line: 4,
+            kind: ProgramKind::TooLong,
+        },
+        3,
+        b"program: line 4: TooLong\n",
+    ),
+    (
+        Status::BadProgram {
+            line: 4,
+            kind: ProgramKind::NotFalling,
+        },
+        3,
+        b"program: line 4: NotFalling\n",
     ),
     (
         Status::BadInput {
@@ -197,6 +270,46 @@ const STATUSES: [(Status, u8, &[u8]); 15] = [
         },
         4,
         b"input: line 6: NoEdge\n",
+    ),
+    (
+        Status::BadInput {
+            line: 6,
+            kind: InputKind::MixedModes,
+        },
+        4,
+        b"input: line 6: MixedModes\n",
+    ),
+    (
+        Status::BadInput {
+            line: 6,
+            kind: InputKind::OutOfOrder,
+        },
+        4,
+        b"input: line 6: OutOfOrder\n",
+    ),
+    (
+        Status::BadInput {
+            line: 6,
+            kind: InputKind::AddsPresent,
+        },
+        4,
+        b"input: line 6: AddsPresent\n",
+    ),
+    (
+        Status::BadInput {
+            line: 6,
+            kind: InputKind::RemovesAbsent,
+        },
+        4,
+        b"input: line 6: RemovesAbsent\n",
+    ),
+    (
+        Status::BadInput {
+            line: 6,
+            kind: InputKind::NotDone,
+        },
+        4,
+        b"input: line 6: NotDone\n",
     ),
     (
         Status::Limit {

@@ -1,9 +1,9 @@
-ghost use Rattle.std.specs.Prelude.{◌≡◌, ℕ, List, [], ◌∷◌, ◌++◌, Some, false, IsTrue, IfOk, IfSome, OnOk, OnErr, map, slice_get};
+ghost use Rattle.std.specs.Prelude.{◌≡◌, ◌≤◌, ℕ, List, [], ◌∷◌, ◌++◌, Some, false, IsTrue, IfOk, IfSome, OnOk, OnErr, length, map, slice_get};
 ghost use Rattle.std.specs.List.{list_any};
 ghost use Rattle.std.specs.Option.{option_copied};
 ghost use Rattle.std.specs.Str.{bytes_eq};
 ghost use Rattle.job_io.specs.Fields.{is_label_word};
-ghost use Rattle.update_reader.specs.Names.{first_names, number_in};
+ghost use Rattle.update_reader.specs.Names.{AreNames, first_names, number_in};
 ghost use Rattle.update_reader.specs.Interning.{Interns};
 
 use graph_types::{LabelId, NoMemory};
@@ -92,6 +92,23 @@ impl Names {
     {
         let name = self.names.get_index(l.0 as usize)?;
         Some(name.as_slice())
+    }
+
+    /// The number of a name that is known, in constant time on average.
+    pub fn number(&self, name: &[u8]) -> Option<LabelId>
+        ensures { result ≡ number_in self.now name.now }
+    {
+        let place = self.names.get_index_of(name)?;
+        Some(LabelId(place as u32))
+    }
+
+    /// How many names there are.
+    pub fn count(&self) -> usize
+        ensures count { result ≡ length self.now }
+        ensures few { result ≤ MOST_NAMES }
+        ensures names { AreNames self.now }
+    {
+        self.names.len()
     }
 
     /// The number of `_`.

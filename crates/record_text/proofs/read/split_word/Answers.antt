@@ -1,5 +1,3 @@
-use Rattle.std.proofs.Common.{◌∷◌, ap, ◌∙◌}
-use Rattle.job_io.specs.Fields.{words_of}
 use Rattle.record_text.proofs.Words.{words_of-rest_of}
 use Rattle.record_text.proofs.read.split_word.Goals as goal
 

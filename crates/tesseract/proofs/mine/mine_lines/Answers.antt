@@ -5,8 +5,8 @@ use Rattle.tesseract.proofs.mine.mine_lines.Goals as goal
 
 pub lines-init : goal.lines-init
 lines-init g c = (
-  StandsBetween-start c.args.most _ _ c.args.page.now c.in-Ok.reader c.new-job.result
-      c.requires.fresh c.new-job.ensures
+  StandsBetween-start c.args.most _ _ c.args.page.now c.in-Ok.reader c.in-Ok-new.job
+      c.requires.fresh c.in-Ok-new.ensures.stage c.in-Ok-new.ensures.stamp
       c.in-Ok.ensures.line c.in-Ok.ensures.number c.in-Ok.ensures.most
       c.in-Ok.ensures.live c.in-Ok.ensures.held,
   omega arith,
@@ -20,4 +20,8 @@ returns-in-End-clause-mined g c =
 
 pub returns-in_default-clause-mined : goal.returns-in_default-clause-mined
 returns-in_default-clause-mined g c =
+    (tt, Ended-unbegun c.args.most _ _ c.args.page.now c.requires.fresh)
+
+pub returns-in_default-new-clause-mined : goal.returns-in_default-new-clause-mined
+returns-in_default-new-clause-mined g c =
     (tt, Ended-unbegun c.args.most _ _ c.args.page.now c.requires.fresh)

@@ -1,14 +1,17 @@
-use Rattle.std.proofs.Common.{◌≡◌, ap, ◌∙◌}
+use Rattle.std.proofs.Common.{arith, ap, sym, subst, ◌∙◌}
 use Rattle.std.specs.FinMap as map
-use Rattle.graph_types.specs.Orders.{pair_cmp_total}
-use Rattle.graph_types.proofs.Views.{get-seen}
+use Rattle.std.specs.Option.{is_some}
+use Rattle.graph_types.specs.Graph.{HasEnds}
+use Rattle.graph_types.proofs.Undirected.{edge-below, HasEnds-undirected}
 use Rattle.graph_types.proofs.snapshot.Snapshot.edge_label.Goals as goal
 
 pub returns-clause-label : goal.returns-clause-label
 returns-clause-label c =
-    c.copied.ensures ∙ c.get.ensures.value ∙ get-seen pair_cmp_total _ _ ∙ ap (λ g. map.get g.edges c.args.e) c.self.view_is
+    c.edge_label.ensures
+    ∙ sym (edge-below c.self.inside.arcs _ _ (omega (arith, c.a-low.ensures.ordered, c.b-high.ensures.higher)))
+    ∙ (λ i. map.get (c.self.view_is i).edges (c.a-low.ensures.lower i, c.b-high.ensures.higher i))
 
 pub returns-clause-ends : goal.returns-clause-ends
-returns-clause-ends c =
-    let label : c.copied.result ≡ map.get c.args.self.now.edges c.args.e = returns-clause-label c in
-    rw (label, ← c.self.view_is) (c.self.invariant.ends c.args.e)
+returns-clause-ends c has =
+    let ends = HasEnds-undirected c.self.inside.arcs c.self.invariant _ _ (ap is_some (sym c.edge_label.ensures) ∙ has) in
+    subst (λ e. HasEnds c.args.self.now e) (λ i. (c.a-low.ensures.lower i, c.b-high.ensures.higher i)) (subst (λ g. HasEnds g (c.a-low.result, c.b-high.result)) c.self.view_is ends)

@@ -1,15 +1,8 @@
-use Rattle.std.proofs.Common.{filter, ap, sym, ◌∙◌}
-use Rattle.std.specs.Cmp.{nat_cmp_total}
-use Rattle.std.specs.FinMap as map
-use Rattle.graph_types.specs.Graph.{is_joined}
-use Rattle.graph_types.proofs.Views.{keys-seen}
+use Rattle.std.proofs.Common.{ap, ◌∙◌}
+use Rattle.std.proofs.lemmas.Result.{IfOk-weaker}
+use Rattle.graph_types.specs.Graph.{neighbours}
+use Rattle.graph_types.proofs.Undirected.{Lists-neighbours}
 use Rattle.graph_types.proofs.snapshot.Snapshot.near.Goals as goal
 
-pub loop-w-init : goal.loop-w-init
-loop-w-init c =
-    rw c.new-near.ensures
-    (ap (filter (is_joined c.args.self.now c.args.v))
-    (c.into_iter-w-iterator.ensures.into_iter_gives
-    ∙ c.keys-w-items.ensures.rest
-    ∙ sym (keys-seen nat_cmp_total _ c.keys-w-items.ensures.ordered)
-    ∙ ap (λ g. map.keys g.labels) c.self.view_is))
+pub returns : goal.returns
+returns c = IfOk-weaker c.near.result _ _ (λ ws lists. Lists-neighbours c.self.inside.arcs c.self.invariant c.args.v ws lists ∙ ap (λ g. neighbours g c.args.v) c.self.view_is) c.near.ensures

@@ -1,5 +1,10 @@
-use Rattle.graph_types.proofs.Simple.{IsSimple-empty_graph}
+use Rattle.std.proofs.Common.{ap, ◌∙◌}
+use Rattle.graph_types.specs.Adjacency.{undirected}
+use Rattle.graph_types.proofs.Undirected.{IsUndirected-empty_graph, undirected-empty_graph}
 use Rattle.graph_types.proofs.snapshot.Snapshot.new.Goals as goal
 
 pub invariant_of-result : goal.invariant_of-result
-invariant_of-result c = rw (c.new.ensures.empty, c.new-2.ensures.empty) IsSimple-empty_graph
+invariant_of-result c = rw c.new.ensures IsUndirected-empty_graph
+
+pub returns : goal.returns
+returns c = ap undirected c.new.ensures ∙ undirected-empty_graph

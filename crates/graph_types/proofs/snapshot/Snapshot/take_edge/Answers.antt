@@ -1,13 +1,16 @@
-use Rattle.std.proofs.Common.{ap, sym, subst, ◌∙◌}
+use Rattle.std.proofs.Common.{◌<◌, arith, ◌∙◌}
 use Rattle.graph_types.specs.Graph.{without_edge}
-use Rattle.graph_types.proofs.Graph.{graph_of-remove_edge}
-use Rattle.graph_types.specs.Simple.{IsSimple}
-use Rattle.graph_types.proofs.Simple.{IsSimple-without_edge}
+use Rattle.graph_types.proofs.Undirected.{take_both, IsUndirected-take_both}
 use Rattle.graph_types.proofs.snapshot.Snapshot.take_edge.Goals as goal
+
+below : (c : goal.After-take_edge-2) → c.a-a.result < c.b-b.result
+below c = omega (arith, c.a-a.ensures.ordered, c.b-b.ensures.higher)
 
 pub invariant_of-self : goal.invariant_of-self
 invariant_of-self c =
-    subst IsSimple (sym (graph_of-remove_edge _ _ _ _ c.remove.ensures.updates.0)) (IsSimple-without_edge _ _ c.self.invariant)
+    rw (c.take_edge-2.ensures, c.take_edge.ensures) (IsUndirected-take_both c.self.inside.arcs _ _ (below c) c.self.invariant)
 
 pub returns : goal.returns
-returns c = graph_of-remove_edge _ _ _ _ c.remove.ensures.updates.0 ∙ ap (λ g. without_edge g c.args.e) c.self.view_is
+returns c =
+    rw (c.take_edge-2.ensures, c.take_edge.ensures)
+    (take_both c.self.inside.arcs _ _ (below c) ∙ (λ i. without_edge (c.self.view_is i) (c.a-a.ensures.lower i, c.b-b.ensures.higher i)))

@@ -1,0 +1,13 @@
+//! The words of the command line: which command they name, with which options, or that they are in none
+//! of the forms.
+#![tactic(auto)]
+
+mod command;
+mod options;
+mod settings;
+#[cfg(test)]
+mod tests;
+mod words;
+
+pub use command::{Command, Options, Verb, WordsFault};
+pub use words::read_words;

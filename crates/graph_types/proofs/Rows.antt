@@ -1,0 +1,130 @@
+-- What the directed graph that rows store has at a vertex and at an edge, and its edges in order.
+use Rattle.std.proofs.Common.{◌≡◌, ℕ, Bool, true, false, ◌&&◌, eqb, cond, List, [], ◌∷◌, ◌++◌, map, refl, sym, ap, subst, ◌∙◌, Option, None, Some, arith}
+use Rattle.std.specs.List.{AllByRecursion, flat_map}
+use Rattle.std.specs.List.Sorted.{IsStrictlySortedBy}
+use Rattle.std.specs.Map.{keys_of}
+use Rattle.std.specs.Option.{option_or, option_map, option_and_then}
+use Rattle.std.specs.Ordering.{nat_cmp, eq_by_cmp, is_eq, is_lt, ordering_then}
+use Rattle.std.specs.Cmp.{nat_cmp_total}
+use Rattle.std.specs.declared.cmp.Ordering.{Ordering}
+use Rattle.std.specs.declared.cmp.Ordering.TheVariants.{Less, Equal, Greater}
+use Rattle.std.specs.FinMap as map
+use Rattle.std.specs.FinMap.Entries.{below_all, is_sorted}
+use Rattle.std.proofs.lemmas.Bool.Decides.{nat_tests}
+use Rattle.std.proofs.lemmas.Bool.{eqb-true}
+use Rattle.std.proofs.lemmas.Map.Keys.{sorted_head, sorted_tail}
+use Rattle.std.proofs.lemmas.Map.Made.{keys_of-map_values}
+use lib.Dec.{T}
+use Rattle.graph_types.specs.declared.adjacency.Vertex.{Vertex}
+use Rattle.graph_types.specs.Graph.{pair_cmp, empty_graph}
+use Rattle.graph_types.specs.Adjacency.{Rows, edges_from, graph_of_rows}
+use Rattle.graph_types.specs.Orders.{pair_cmp_total}
+use Rattle.graph_types.proofs.Views.{entries-seen, keys-seen}
+
+is_eq-then : (r s : Ordering) → is_eq (ordering_then r s) ≡ (is_eq r && is_eq s)
+is_eq-then Less s = refl
+is_eq-then Equal s = refl
+is_eq-then Greater s = refl
+
+-- two numbers, and two pairs of numbers, tie where they are equal
+pub nat-test : (x y : ℕ) → eq_by_cmp nat_cmp x y ≡ eqb x y
+nat-test x y = grind (arith, nat_tests)
+
+pub pair-test : (e f : ℕ × ℕ) → eq_by_cmp pair_cmp e f ≡ (eqb e.0 f.0 && eqb e.1 f.1)
+pair-test e f = is_eq-then _ _ ∙ (λ i. nat-test e.0 f.0 i && nat-test e.1 f.1 i)
+
+module _ {K X : Type 0} (R : K → K → Ordering) where
+  all_above : (x : K) (es : List (K × X)) → T (below_all R x es) → AllByRecursion (λ y. R x y ≡ Less) (keys_of es)
+  all_above x [] h = tt
+  all_above x (e ∷ es) h =
+      elim (R x e.0) as (λ r. R x e.0 ≡ r → T (is_lt r && below_all R x es) → AllByRecursion (λ y. R x y ≡ Less) (e.0 ∷ keys_of es)) [
+        | Less ↦ λ below rest. (below, all_above x es rest)
+        | Equal ↦ λ _ rest. absurd rest
+        | Greater ↦ λ _ rest. absurd rest
+      ] refl h
+
+  rises : (es : List (K × X)) → T (is_sorted R es) → IsStrictlySortedBy R (keys_of es)
+  unfolding IsStrictlySortedBy
+  rises [] h = tt
+  rises (e ∷ es) h =
+      elim (below_all R e.0 es) as (λ b. below_all R e.0 es ≡ b → T (b && is_sorted R es) → IsStrictlySortedBy R (e.0 ∷ keys_of es)) [
+        | true ↦ λ below rest. (all_above e.0 es (subst T (sym below) tt), rises es rest)
+        | false ↦ λ _ rest. absurd rest
+      ] refl h
+
+  find-append : (q : K) (es fs : List (K × X)) → map.find R q (es ++ fs) ≡ option_or (map.find R q es) (map.find R q fs)
+  find-append q [] fs = refl
+  find-append q (e ∷ es) fs =
+      elim (eq_by_cmp R q e.0) as (λ b. cond b (Some e.1) (map.find R q (es ++ fs)) ≡ option_or (cond b (Some e.1) (map.find R q es)) (map.find R q fs)) [ true ↦ refl | false ↦ find-append q es fs ]
+
+  pub find-below : (q : K) (es : List (K × X)) → AllByRecursion (λ y. R q y ≡ Less) (keys_of es) → map.find R q es ≡ None
+  find-below q [] h = refl
+  find-below q (e ∷ es) h = ap (λ r. cond (is_eq r) (Some e.1) (map.find R q es)) h.0 ∙ find-below q es h.1
+
+-- the keys of a finite map rise
+pub keys_rise : {K X : Type 0} {R : K → K → Ordering} (m : map.FinMap R X) → IsStrictlySortedBy R (map.keys m)
+keys_rise {R = R} m = rises R (map.entries m) (map.entries_sorted m)
+
+either : {A : Type 0} (b : Bool) (x : A) → x ≡ cond b x x
+either true x = refl
+either false x = refl
+
+find-edges_from : (x y v : ℕ) (ns : List (ℕ × ℕ)) → map.find pair_cmp (x, y) (map (λ n. ((v, n.0), n.1)) ns) ≡ cond (eqb x v) (map.find nat_cmp y ns) None
+find-edges_from x y v [] = either (eqb x v) _
+find-edges_from x y v (n ∷ ns) =
+    ap (λ b. cond b (Some n.1) (map.find pair_cmp (x, y) (map (λ n. ((v, n.0), n.1)) ns))) (pair-test (x, y) (v, n.0))
+    ∙ ap (cond (eqb x v && eqb y n.0) (Some n.1)) (find-edges_from x y v ns)
+    ∙ elim (eqb x v) as (λ b. cond (b && eqb y n.0) (Some n.1) (cond b (map.find nat_cmp y ns) None) ≡ cond b (map.find nat_cmp y (n ∷ ns)) None) [
+      | true ↦ ap (λ b. cond b (Some n.1) (map.find nat_cmp y ns)) (sym (nat-test y n.0))
+      | false ↦ refl
+    ]
+
+or_none : {X : Type 0} (o : Option X) → option_or o None ≡ o
+or_none None = refl
+or_none (Some x) = refl
+
+find-edges : (x y : ℕ) (rows : List (ℕ × Vertex)) → IsStrictlySortedBy nat_cmp (keys_of rows) → map.find pair_cmp (x, y) (flat_map edges_from rows) ≡ option_and_then (λ row. map.get row.near y) (map.find nat_cmp x rows)
+find-edges x y [] sorted = refl
+find-edges x y (row ∷ rows) sorted =
+    let rest = find-edges x y rows (sorted_tail nat_cmp _ _ sorted) in
+    let others : x ≡ row.0 → map.find nat_cmp x rows ≡ None = λ e. find-below nat_cmp x rows (subst (λ v. AllByRecursion (λ w. nat_cmp v w ≡ Less) (keys_of rows)) (sym e) (sorted_head nat_cmp _ _ sorted)) in
+    find-append pair_cmp (x, y) (edges_from row) (flat_map edges_from rows)
+    ∙ (λ i. option_or (find-edges_from x y row.0 (map.entries row.1.near) i) (rest i))
+    ∙ elim (eqb x row.0) as (λ b. eqb x row.0 ≡ b → option_or (cond b (map.find nat_cmp y (map.entries row.1.near)) None) (option_and_then (λ row. map.get row.near y) (map.find nat_cmp x rows)) ≡ option_and_then (λ row. map.get row.near y) (cond b (Some row.1) (map.find nat_cmp x rows))) [
+      | true ↦ λ e.
+          ap (λ o. option_or (map.find nat_cmp y (map.entries row.1.near)) (option_and_then (λ row. map.get row.near y) o)) (others (eqb-true _ _ e))
+          ∙ or_none _
+          ∙ sym (map.get-entries row.1.near y)
+      | false ↦ λ _. refl
+    ] refl
+    ∙ ap (λ b. option_and_then (λ row. map.get row.near y) (cond b (Some row.1) (map.find nat_cmp x rows))) (sym (nat-test x row.0))
+
+find-labels : (x : ℕ) (rows : List (ℕ × Vertex)) → map.find nat_cmp x (map (λ row. (row.0, row.1.label)) rows) ≡ option_map (λ row. row.label) (map.find nat_cmp x rows)
+find-labels x [] = refl
+find-labels x (row ∷ rows) =
+    elim (eq_by_cmp nat_cmp x row.0) as (λ b. cond b (Some row.1.label) (map.find nat_cmp x (map (λ row. (row.0, row.1.label)) rows)) ≡ option_map (λ row. row.label) (cond b (Some row.1) (map.find nat_cmp x rows))) [ true ↦ refl | false ↦ find-labels x rows ]
+
+-- the label of a vertex stands in its row
+pub get-labels : (rows : Rows) (x : ℕ) → map.get (graph_of_rows rows).labels x ≡ option_map (λ row. row.label) (map.get rows x)
+get-labels rows x =
+    map.get-from_entries nat_cmp_total _ x
+    ∙ find-labels x (map.entries rows)
+    ∙ ap (option_map (λ row. row.label)) (sym (map.get-entries rows x))
+
+-- the label of an edge stands in the row of the vertex that it comes from
+pub get-edges : (rows : Rows) (x y : ℕ) → map.get (graph_of_rows rows).edges (x, y) ≡ option_and_then (λ row. map.get row.near y) (map.get rows x)
+get-edges rows x y =
+    map.get-from_entries pair_cmp_total _ (x, y)
+    ∙ find-edges x y (map.entries rows) (keys_rise rows)
+    ∙ ap (option_and_then (λ row. map.get row.near y)) (sym (map.get-entries rows x))
+
+-- no rows store the graph that has nothing
+pub graph-no_rows : graph_of_rows map.empty ≡ empty_graph
+unfolding IsStrictlySortedBy
+graph-no_rows = ap (λ (rows : List (ℕ × Vertex)). record { labels = map.from_entries (map (λ row. (row.0, row.1.label)) rows); edges = map.from_entries (flat_map edges_from rows) }) (entries-seen nat_cmp_total [] tt)
+
+-- the vertices, in order
+pub keys-labels : (rows : Rows) → map.keys (graph_of_rows rows).labels ≡ map.keys rows
+keys-labels rows =
+    let same = keys_of-map_values (λ row. row.label) (map.entries rows) in
+    keys-seen nat_cmp_total _ (subst (IsStrictlySortedBy nat_cmp) (sym same) (keys_rise rows)) ∙ same

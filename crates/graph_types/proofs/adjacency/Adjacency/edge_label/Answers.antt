@@ -1,0 +1,20 @@
+use Rattle.std.proofs.Common.{sym, ap, ◌∙◌}
+use Rattle.std.specs.Cmp.{nat_cmp_total}
+use Rattle.std.specs.FinMap as map
+use Rattle.std.specs.Option.{option_and_then}
+use Rattle.graph_types.proofs.Views.{get-seen}
+use Rattle.graph_types.proofs.Rows.{get-edges}
+use Rattle.graph_types.proofs.adjacency.Adjacency.edge_label.Goals as goal
+
+pub returns-in-Some : goal.returns-in-Some
+returns-in-Some c =
+    c.label.ensures
+    ∙ ap (option_and_then (λ row. map.get row.near c.args.to)) (c.in-Some.ensures.value ∙ get-seen nat_cmp_total _ _)
+    ∙ sym (get-edges _ c.args.from c.args.to)
+    ∙ ap (λ g. map.get g.edges (c.args.from, c.args.to)) c.self.view_is
+
+pub returns-in-None : goal.returns-in-None
+returns-in-None c =
+    ap (option_and_then (λ row. map.get row.near c.args.to)) (c.in-None.ensures.value ∙ get-seen nat_cmp_total _ _)
+    ∙ sym (get-edges _ c.args.from c.args.to)
+    ∙ ap (λ g. map.get g.edges (c.args.from, c.args.to)) c.self.view_is

@@ -1,6 +1,0 @@
-use Rattle.std.proofs.Common.{◌≡◌, ◌++◌}
-use Rattle.std.specs.FinMap as map
-use Rattle.graph_types.proofs.snapshot.Snapshot.vertices.Given as goal
-
-abbrev pub invariant-loop-v : goal.invariant-loop-v
-invariant-loop-v l = l.vertices ++ l.v-iterator ≡ map.keys l.self.labels

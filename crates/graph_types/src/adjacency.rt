@@ -1,0 +1,158 @@
+ghost use Rattle.std.specs.Prelude.{◌≡◌, ℕ, false, IsTrue, OnOk, OnErr, IfOk, filter};
+ghost use Rattle.std.specs.FinMap as map;
+ghost use Rattle.std.specs.Ordering.{nat_cmp};
+ghost use Rattle.graph_types.specs.Graph.{empty_graph, has_vertex, has_edge, with_vertex, with_edge, without_edge};
+ghost use Rattle.graph_types.specs.Adjacency.{Lists, without_row, without_edges_to, goes_up};
+
+use crate::neighbours::Neighbours;
+use crate::{EdgeList, LabelId, NoMemory, VertexId, VertexList};
+use std::alloc::Global;
+use std::collections::BTreeMap;
+use std::marker::Model;
+
+/// What is known of a vertex: its label, and where its edges lead.
+#[derive(Debug, Drop)]
+pub(crate) struct Vertex {
+    label: LabelId,
+    near: Neighbours,
+}
+
+/// A directed labelled graph, as one ordered map of its vertices, each with the edges from it.
+#[derive(Debug, Drop)]
+pub(crate) struct Adjacency {
+    rows: BTreeMap<VertexId, Vertex>,
+    alloc: Global,
+}
+
+impl Model for Adjacency {
+    ghost use Rattle.std.specs.FinMap as map;
+    ghost use Rattle.graph_types.specs.Graph.{Graph, graph_code};
+    ghost use Rattle.graph_types.specs.Adjacency.{graph_of_rows};
+
+    ghost Value = { Graph };
+
+    ghost coded = { graph_code };
+
+    ghost view = { λ a. graph_of_rows (map.from_entries a.rows.entries) };
+}
+
+impl Adjacency {
+    /// The graph that has nothing. It takes its memory from `alloc`, and none yet.
+    pub fn new(alloc: Global) -> Adjacency
+        ensures { result ≡ empty_graph }
+    {
+        Adjacency {
+            rows: BTreeMap::new(alloc),
+            alloc,
+        }
+    }
+
+    /// The label of a vertex.
+    pub fn label(&self, v: VertexId) -> Option<LabelId>
+        ensures { result ≡ map.get self.now.labels v }
+    {
+        match self.rows.get(&v) {
+            Some(vertex) => Some(vertex.label),
+            None => None,
+        }
+    }
+
+    /// The label of the edge from one vertex to another.
+    pub fn edge_label(&self, from: VertexId, to: VertexId) -> Option<LabelId>
+        ensures { result ≡ map.get self.now.edges (from, to) }
+    {
+        match self.rows.get(&from) {
+            Some(vertex) => vertex.near.label(to),
+            None => None,
+        }
+    }
+
+    /// Gives a vertex a label, in place of the one that it had, if it was there.
+    pub fn put_vertex(&mut self, v: VertexId, label: LabelId) -> Result<(), NoMemory>
+        ensures ok { OnOk result (self.new ≡ with_vertex self.old v label) }
+        ensures err { OnErr result (self.new ≡ self.old) }
+    {
+        if let Some(vertex) = self.rows.get_mut(&v) {
+            vertex.label = label;
+            return Ok(());
+        }
+        let near = Neighbours::new(self.alloc);
+        self.rows.insert(v, Vertex { label, near })?;
+        Ok(())
+    }
+
+    /// Gives the edge from one vertex to another a label. Only a new edge takes memory.
+    pub fn put_edge(&mut self, from: VertexId, to: VertexId, label: LabelId) -> Result<(), NoMemory>
+        requires { IsTrue (has_vertex self.old from) }
+        ensures ok { OnOk result (self.new ≡ with_edge self.old (from, to) label) }
+        ensures err { OnErr result (self.new ≡ self.old) }
+        ensures was_new { OnErr result (has_edge self.old (from, to) ≡ false) }
+    {
+        let Some(vertex) = self.rows.get_mut(&from) else {
+            unreachable!()
+        };
+        vertex.near.put(to, label)
+    }
+
+    /// Takes the edge from one vertex to another out, if it is there.
+    pub fn take_edge(&mut self, from: VertexId, to: VertexId)
+        ensures { self.new ≡ without_edge self.old (from, to) }
+    {
+        let Some(vertex) = self.rows.get_mut(&from) else {
+            return;
+        };
+        vertex.near.take(to);
+    }
+
+    /// Takes a vertex out with the edges from it, if it is there, and answers where these led.
+    pub fn take_vertex(&mut self, v: VertexId) -> Neighbours
+        ensures rest { self.new ≡ without_row self.old v }
+        ensures taken { (w : ℕ) → map.get result w ≡ map.get self.old.edges (v, w) }
+    {
+        let Some(vertex) = self.rows.remove(&v) else {
+            return Neighbours::new(self.alloc);
+        };
+        vertex.near
+    }
+
+    /// Takes out the edges to a vertex from each of the sources.
+    pub fn take_edges_to(&mut self, mut sources: Neighbours, to: VertexId)
+        ensures { self.new ≡ without_edges_to self.old sources to }
+    {
+        while let Some(from) = sources.pop() {
+            self.take_edge(from, to);
+        }
+    }
+
+    /// The vertices, ascending, in a new list.
+    pub fn vertices(&self, alloc: Global) -> Result<VertexList, NoMemory>
+        ensures { IfOk result (λ vs. vs ≡ map.keys self.now.labels) }
+    {
+        let mut vertices = VertexList::new(alloc);
+        for v in self.rows.keys() {
+            vertices.push(*v)?;
+        }
+        Ok(vertices)
+    }
+
+    /// The edges to the higher of their ends, ascending, in a new list.
+    pub fn edges_up(&self, alloc: Global) -> Result<EdgeList, NoMemory>
+        ensures { IfOk result (λ es. es ≡ filter goes_up (map.keys self.now.edges)) }
+    {
+        let mut edges = EdgeList::new(alloc);
+        for (v, vertex) in &self.rows {
+            vertex.near.push_edges_up(alloc, *v, &mut edges)?;
+        }
+        Ok(edges)
+    }
+
+    /// Where the edges from a vertex lead, ascending, in a new list.
+    pub fn near(&self, alloc: Global, v: VertexId) -> Result<VertexList, NoMemory>
+        ensures { IfOk result (λ ws. Lists nat_cmp (λ w. has_edge self.now (v, w)) ws) }
+    {
+        match self.rows.get(&v) {
+            Some(vertex) => vertex.near.list(alloc),
+            None => Ok(VertexList::new(alloc)),
+        }
+    }
+}

@@ -1,0 +1,135 @@
+use Rattle.std.proofs.Common.{◌-◌, length, Ok, Err, codes, sym, ap, ◌∙◌, arith}
+use Rattle.std.proofs.lemmas.Result.{err_from_is_err_and}
+use Rattle.filter_polarity.specs.declared.condition.Cond.{Cond}
+use Rattle.filter_polarity.specs.declared.condition.Cond.TheOpen as form
+use Rattle.filter_polarity.specs.declared.condition.Cond.TheViews.{roll-Cond}
+use Rattle.program_grammar.specs.Token.{word}
+use Rattle.program_grammar.specs.Grammar.{◌>>=◌, cond_within, conj, neg, inside}
+use Rattle.program_grammar.proofs.Chaining.{Reads-err, Reads-refused, conj-first, cond-first, chain_stop, chain_more, chain_fail, neg-opened, neg-full, negated, atom-opened, atom-full, closed, closed-passed, closed-missed}
+use Rattle.program_grammar.proofs.reader.ConditionReader.+condition.Goals as goal
+
+abbrev and : Cond → Cond → Cond
+and a b = roll-Cond (form.And a b)
+
+abbrev or : Cond → Cond → Cond
+or a b = roll-Cond (form.Or a b)
+
+pub neg-returns-in_err-room-clause-reads : goal.neg-returns-in_err-room-clause-reads
+neg-returns-in_err-room-clause-reads t c =
+    let p = err_from_is_err_and c.from_residual.result c.from_residual.ensures.1 in
+    Reads-refused c.from_residual.result c.in_err-room.field-0.0 c.takes.new.self _ (p.1 ∙ ap Err p.2)
+    (neg-full c.args.room c.args.self.now c.takes.new.self c.in_err-room.ensures.0 c.if-takes.ensures ∙ ap Err (sym c.in_err-room.ensures.1))
+
+pub neg-returns-in_err-operand-clause-reads : goal.neg-returns-in_err-operand-clause-reads
+neg-returns-in_err-operand-clause-reads t c =
+    let p = err_from_is_err_and c.from_residual-in_err-operand.result c.from_residual-in_err-operand.ensures.1 in
+    Reads-err c.from_residual-in_err-operand.result c.in_err-operand.field-0.0 c.neg.new.self c.neg.new.self
+    (neg (inside c.in_ok-room.room) c.takes.new.self.tokens c.takes.new.self.names) _ (p.1 ∙ ap Err p.2) c.in_err-operand.ensures.reads
+    (λ f read. neg-opened c.args.room c.in_ok-room.room c.args.self.now c.takes.new.self c.in_ok-room.ensures c.if-takes.ensures ∙ ap (λ r. r >>= negated) read)
+
+pub neg-returns-then-takes-clause-reads : goal.neg-returns-then-takes-clause-reads
+neg-returns-then-takes-clause-reads t c =
+    neg-opened c.args.room c.in_ok-room.room c.args.self.now c.takes.new.self c.in_ok-room.ensures c.if-takes.ensures
+    ∙ ap (λ r. r >>= negated) c.in_ok-operand.ensures.reads
+    ∙ ap (λ x. Ok (x, c.neg.new.self.tokens, c.neg.new.self.names)) (sym c.in_ok-cond.ensures)
+
+pub atom-returns-in_err-room-clause-reads : goal.atom-returns-in_err-room-clause-reads
+atom-returns-in_err-room-clause-reads t c =
+    let p = err_from_is_err_and c.from_residual.result c.from_residual.ensures.1 in
+    Reads-refused c.from_residual.result c.in_err-room.field-0.0 c.takes-3.new.self _ (p.1 ∙ ap Err p.2)
+    (atom-full c.args.self.now c.takes.new.self c.takes-2.new.self c.takes-3.new.self c.if-takes.ensures c.if-takes-2.ensures c.if-takes-3.ensures c.args.room c.in_err-room.ensures.0
+    ∙ ap Err (sym c.in_err-room.ensures.1))
+
+pub atom-returns-in_err-cond-clause-reads : goal.atom-returns-in_err-cond-clause-reads
+atom-returns-in_err-cond-clause-reads t c =
+    let p = err_from_is_err_and c.from_residual-in_err-cond.result c.from_residual-in_err-cond.ensures.1 in
+    Reads-err c.from_residual-in_err-cond.result c.in_err-cond.field-0.0 c.cond.new.self c.cond.new.self
+    (cond_within (inside c.in_ok-room.room) c.takes-3.new.self.tokens c.takes-3.new.self.names) _ (p.1 ∙ ap Err p.2) c.in_err-cond.ensures.reads
+    (λ f read. atom-opened c.args.self.now c.takes.new.self c.takes-2.new.self c.takes-3.new.self c.if-takes.ensures c.if-takes-2.ensures c.if-takes-3.ensures c.args.room c.in_ok-room.room c.in_ok-room.ensures
+    ∙ ap (λ r. r >>= closed) read)
+
+pub atom-returns-in_err-expect-clause-reads : goal.atom-returns-in_err-expect-clause-reads
+atom-returns-in_err-expect-clause-reads t c =
+    let p = err_from_is_err_and c.from_residual-in_err-expect.result c.from_residual-in_err-expect.ensures.1 in
+    Reads-refused c.from_residual-in_err-expect.result c.in_err-expect.field-0.0 c.expect.new.self _ (p.1 ∙ ap Err p.2)
+    (atom-opened c.args.self.now c.takes.new.self c.takes-2.new.self c.takes-3.new.self c.if-takes.ensures c.if-takes-2.ensures c.if-takes-3.ensures c.args.room c.in_ok-room.room c.in_ok-room.ensures
+    ∙ ap (λ r. r >>= closed) c.in_ok-cond.ensures.reads
+    ∙ closed-missed c.in_ok-cond.cond c.cond.new.self c.expect.new.self c.in_err-expect.field-0.0 c.in_err-expect.ensures.missed.0 c.in_err-expect.ensures.missed.1)
+
+pub atom-returns-then-takes-3-clause-reads : goal.atom-returns-then-takes-3-clause-reads
+atom-returns-then-takes-3-clause-reads t c =
+    atom-opened c.args.self.now c.takes.new.self c.takes-2.new.self c.takes-3.new.self c.if-takes.ensures c.if-takes-2.ensures c.if-takes-3.ensures c.args.room c.in_ok-room.room c.in_ok-room.ensures
+    ∙ ap (λ r. r >>= closed) c.in_ok-cond.ensures.reads
+    ∙ closed-passed c.in_ok-cond.cond c.cond.new.self c.expect.new.self c.in_ok-expect.ensures.passed
+
+pub conj-loop-alloc-init : goal.conj-loop-alloc-init
+conj-loop-alloc-init t c = record {
+  turns = length c.neg.new.self.tokens;
+  enough = omega arith;
+  same = conj-first (inside c.args.room) c.args.self.now.tokens c.neg.new.self.tokens c.args.self.now.names c.neg.new.self.names c.in_ok-left.left c.in_ok-left.ensures.reads;
+  shorter = c.in_ok-left.ensures.goes_on.shorter;
+  known = c.in_ok-left.ensures.goes_on.known;
+}
+
+pub conj-returns-in_err-right-clause-reads : goal.conj-returns-in_err-right-clause-reads
+conj-returns-in_err-right-clause-reads t c =
+    let p = err_from_is_err_and c.from_residual-in_err-right.result c.from_residual-in_err-right.ensures.1 in
+    let l = c.loop-alloc in
+    Reads-err c.from_residual-in_err-right.result c.in_err-right.field-0.0 c.neg-in-loop-alloc.new.self c.neg-in-loop-alloc.new.self
+    (neg (inside c.args.room) c.takes.new.self.tokens c.takes.new.self.names) _ (p.1 ∙ ap Err p.2) c.in_err-right.ensures.reads
+    (λ f read. l.invariant.same ∙ chain_fail (word (codes "and")) and (neg (inside c.args.room)) l.invariant.turns l.left l.self c.takes.new.self l.invariant.enough c.loop-alloc-test.ensures f read)
+
+pub conj-loop-alloc-preserved : goal.conj-loop-alloc-preserved
+conj-loop-alloc-preserved t c =
+    let l = c.loop-alloc in
+    let passes = c.loop-alloc-test.ensures in
+    let on = c.in_ok-right.ensures.goes_on in
+    record {
+      turns = l.invariant.turns - 1;
+      enough = omega (arith, l.invariant.enough, passes.shorter, on.shorter);
+      same = l.invariant.same ∙ chain_more (word (codes "and")) and (neg (inside c.args.room)) l.invariant.turns l.left l.self c.takes.new.self l.invariant.enough passes
+          c.in_ok-right.right c.in_ok-left-2.left c.neg-in-loop-alloc.new.self c.in_ok-right.ensures.reads c.in_ok-left-2.ensures;
+      shorter = omega (arith, l.invariant.shorter, passes.shorter, on.shorter);
+      known = on.known ∙ passes.known ∙ l.invariant.known;
+    }
+
+pub conj-returns-clause-reads : goal.conj-returns-clause-reads
+conj-returns-clause-reads t c =
+    let l = c.loop-alloc in
+    l.invariant.same ∙ chain_stop (word (codes "and")) and (neg (inside c.args.room)) l.invariant.turns l.left l.self c.takes.new.self c.loop-alloc-test.ensures
+
+pub cond-loop-alloc-init : goal.cond-loop-alloc-init
+cond-loop-alloc-init t c = record {
+  turns = length c.conj.new.self.tokens;
+  enough = omega arith;
+  same = cond-first (inside c.args.room) c.args.self.now.tokens c.conj.new.self.tokens c.args.self.now.names c.conj.new.self.names c.in_ok-left.left c.in_ok-left.ensures.reads;
+  shorter = c.in_ok-left.ensures.goes_on.shorter;
+  known = c.in_ok-left.ensures.goes_on.known;
+}
+
+pub cond-returns-in_err-right-clause-reads : goal.cond-returns-in_err-right-clause-reads
+cond-returns-in_err-right-clause-reads t c =
+    let p = err_from_is_err_and c.from_residual-in_err-right.result c.from_residual-in_err-right.ensures.1 in
+    let l = c.loop-alloc in
+    Reads-err c.from_residual-in_err-right.result c.in_err-right.field-0.0 c.conj-in-loop-alloc.new.self c.conj-in-loop-alloc.new.self
+    (conj (inside c.args.room) c.takes.new.self.tokens c.takes.new.self.names) _ (p.1 ∙ ap Err p.2) c.in_err-right.ensures.reads
+    (λ f read. l.invariant.same ∙ chain_fail (word (codes "or")) or (conj (inside c.args.room)) l.invariant.turns l.left l.self c.takes.new.self l.invariant.enough c.loop-alloc-test.ensures f read)
+
+pub cond-loop-alloc-preserved : goal.cond-loop-alloc-preserved
+cond-loop-alloc-preserved t c =
+    let l = c.loop-alloc in
+    let passes = c.loop-alloc-test.ensures in
+    let on = c.in_ok-right.ensures.goes_on in
+    record {
+      turns = l.invariant.turns - 1;
+      enough = omega (arith, l.invariant.enough, passes.shorter, on.shorter);
+      same = l.invariant.same ∙ chain_more (word (codes "or")) or (conj (inside c.args.room)) l.invariant.turns l.left l.self c.takes.new.self l.invariant.enough passes
+          c.in_ok-right.right c.in_ok-left-2.left c.conj-in-loop-alloc.new.self c.in_ok-right.ensures.reads c.in_ok-left-2.ensures;
+      shorter = omega (arith, l.invariant.shorter, passes.shorter, on.shorter);
+      known = on.known ∙ passes.known ∙ l.invariant.known;
+    }
+
+pub cond-returns-clause-reads : goal.cond-returns-clause-reads
+cond-returns-clause-reads t c =
+    let l = c.loop-alloc in
+    l.invariant.same ∙ chain_stop (word (codes "or")) or (conj (inside c.args.room)) l.invariant.turns l.left l.self c.takes.new.self c.loop-alloc-test.ensures

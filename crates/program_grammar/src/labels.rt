@@ -1,0 +1,61 @@
+ghost use Rattle.std.specs.Prelude.{◌≡◌, ◌+◌, ◌≤◌, ◌<◌, ◌++◌, length, map, position, IfOk, IsTrue, MatchOption, OnErr, OnOk};
+ghost use Rattle.std.specs.Str.{bytes_eq};
+ghost use Rattle.filter_polarity.specs.Written.{most_tokens};
+ghost use Rattle.job_io.specs.Fields.{is_label_word};
+ghost use Rattle.program_grammar.specs.Grammar.{numbered};
+ghost use Rattle.program_grammar.specs.Reading.{AddsFirst, AreNew};
+ghost use Rattle.update_reader.specs.Names.{most_names};
+
+use graph_types::{LabelId, NoMemory};
+use std::alloc::Global;
+use update_reader::{NameFault, Names};
+
+/// The number of a label behind the names and the labels that they lack. A label that is new is put there.
+pub(crate) fn number_of<'t>(
+    names: &Names,
+    labels: &mut Vec<&'t [u8]>,
+    label: &'t [u8],
+) -> Result<LabelId, NoMemory>
+    requires few { length labels.old.items < most_tokens }
+    requires form { IsTrue (is_label_word label.now) }
+    ensures numbered { IfOk result (λ l.
+        (l, names.now ++ map (λ l. l.now) labels.new.items) ≡ numbered (names.now ++ map (λ l. l.now) labels.old.items) label.now) }
+    ensures new { AreNew names.now (map (λ l. l.now) labels.old.items) → AreNew names.now (map (λ l. l.now) labels.new.items) }
+    ensures few { length labels.new.items ≤ length labels.old.items + 1 }
+{
+    if let Some(known) = names.number(label) {
+        return Ok(known);
+    }
+    let held = names.count();
+    if let Some(place) = place_of(labels.as_slice(), label) {
+        return Ok(LabelId((held + place) as u32));
+    }
+    let place = labels.len();
+    labels.push(label)?;
+    Ok(LabelId((held + place) as u32))
+}
+
+// The place of a label among others.
+fn place_of(labels: &[&[u8]], label: &[u8]) -> Option<usize>
+    ensures place { result ≡ position (λ l. bytes_eq label.now l.now) labels.now }
+    ensures within { MatchOption result (Unit {0}) (λ i. i < length labels.now) }
+{
+    labels.iter().position(|l| label == *l)
+}
+
+/// Puts labels that are all new behind the names. Where memory is wanted, those before stay there.
+pub(crate) fn intern_all(alloc: Global, names: &mut Names, labels: &[&[u8]]) -> Result<(), NoMemory>
+    requires new { AreNew names.old (map (λ l. l.now) labels.now) }
+    requires room { length names.old + length labels.now ≤ most_names }
+    ensures all { OnOk result (names.new ≡ names.old ++ map (λ l. l.now) labels.now) }
+    ensures some { OnErr result (AddsFirst (map (λ l. l.now) labels.now) names.old names.new) }
+{
+    for label in labels {
+        match names.intern(alloc, label) {
+            Ok(_) => {}
+            Err(NameFault::NoMemory) => return Err(NoMemory),
+            Err(NameFault::TooManyLabels) => unreachable!(),
+        }
+    }
+    Ok(())
+}

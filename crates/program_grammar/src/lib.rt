@@ -1,0 +1,24 @@
+//! Programs as text: conditions and headers, read and written.
+#![tactic(auto)]
+
+mod condition;
+mod fault;
+mod header;
+mod labels;
+mod limited;
+mod program;
+mod reader;
+mod term_name;
+mod terms;
+mod token;
+mod tokens;
+mod writing;
+
+pub use fault::{ProgramFault, Refusal};
+pub use header::{HeaderReader, HeaderStep, Word};
+pub use limited::{Filter, Matching, Size};
+pub use program::read_program;
+pub use writing::write_program;
+
+#[cfg(test)]
+mod tests;

@@ -1,0 +1,136 @@
+ghost use Rattle.std.specs.Prelude.{◌≡◌, ◌≤◌, length, map, IfOk, IfErr, IsSome};
+ghost use Rattle.std.specs.Bool.{MatchBool};
+ghost use Rattle.std.specs.Option.{option_copied};
+ghost use Rattle.filter_polarity.specs.Written.{most_tokens};
+ghost use Rattle.program_grammar.specs.Cursor.{is_empty, TakesFirst, token_of};
+ghost use Rattle.program_grammar.specs.Lexing.{tokens_in, tokens_of};
+ghost use Rattle.program_grammar.specs.Grammar.{label};
+ghost use Rattle.program_grammar.specs.Reading.{GoesOn, KeepsNames, Misses, NewLabels, Passes, Reads};
+ghost use Rattle.program_grammar.specs.Token.{bytes_in, digits_in, op_in};
+
+use crate::fault::{ReadError, Refusal};
+use crate::labels::number_of;
+use crate::token::Token;
+use crate::tokens::Tokens;
+use filter_polarity::Op;
+use graph_types::LabelId;
+use job_io::is_label;
+use std::alloc::Global;
+use std::marker::Model;
+use update_reader::Names;
+
+/// A condition that is being read: its tokens from the next one on, the names before it, and the labels in
+/// it that those lack. The names themselves change only once a whole line was read.
+#[derive(Drop)]
+pub(crate) struct ConditionReader<'t, 'n> {
+    tokens: Tokens<'t>,
+    names: &'n Names,
+    labels: Vec<&'t [u8]>,
+}
+
+impl<'t, 'n> Model for ConditionReader<'t, 'n> {
+    ghost use Rattle.std.specs.Prelude.{◌+◌, ◌≤◌, ◌++◌, length, map};
+    ghost use Rattle.program_grammar.specs.Reading.{AreNew, Left, left_code};
+    ghost use Rattle.filter_polarity.specs.Written.{most_tokens};
+
+    ghost Value = { Left };
+
+    ghost coded = { left_code };
+
+    ghost view = { λ r. record { tokens = r.tokens; names = r.names.now ++ map (λ l. l.now) r.labels.items; known = r.names.now } };
+
+    ghost invariant = { λ r. record {
+      few : length r.labels.items + length r.tokens ≤ most_tokens;
+      new : AreNew r.names.now (map (λ l. l.now) r.labels.items);
+    } };
+}
+
+impl<'t, 'n> ConditionReader<'t, 'n> {
+    pub(crate) fn new(alloc: Global, text: &'t [u8], names: &'n Names) -> ConditionReader<'t, 'n>
+        requires in_tokens { IsSome (tokens_of text.now) }
+        requires few { length (tokens_in text.now) ≤ most_tokens }
+        ensures { result ≡ record { tokens = tokens_in text.now; names = names.now; known = names.now } }
+    {
+        ConditionReader {
+            tokens: Tokens::new(text),
+            names,
+            labels: Vec::new(alloc),
+        }
+    }
+
+    // Takes the next token if it is the one that is wanted.
+    pub(crate) fn takes(&mut self, wanted: &Token<'_>) -> bool
+        ensures { MatchBool result (Passes (token_of wanted.now) self.old self.new) (Misses (token_of wanted.now) self.old self.new) }
+    {
+        self.tokens.takes(wanted)
+    }
+
+    // Takes a label.
+    #[tactic(auto, unfolding(crate::specs::Grammar::label))]
+    pub(crate) fn label(&mut self) -> Result<LabelId, ReadError>
+        ensures reads { Reads result self.new (label self.old.tokens self.old.names) }
+        ensures goes_on { GoesOn self.old self.new }
+    {
+        let word = self.tokens.take_word().ok_or(Refusal::BadLine)?;
+        if !is_label(word) {
+            return Err(ReadError::Refused(Refusal::BadLine));
+        }
+        let label = number_of(self.names, &mut self.labels, word)?;
+        Ok(label)
+    }
+
+    // Takes a token that has to be next.
+    pub(crate) fn expect(&mut self, wanted: &Token<'_>) -> Result<(), Refusal>
+        ensures passed { IfOk result (λ _. Passes (token_of wanted.now) self.old self.new) }
+        ensures missed { IfErr result (λ f. (f ≡ Refusal.BadLine) × Misses (token_of wanted.now) self.old self.new) }
+        ensures goes_on { GoesOn self.old self.new }
+    {
+        if self.takes(wanted) {
+            Ok(())
+        } else {
+            Err(Refusal::BadLine)
+        }
+    }
+
+    // Takes a word, a number or a comparing sign, if it is next.
+    pub(crate) fn take_word(&mut self) -> Option<&'t [u8]>
+        ensures first { TakesFirst bytes_in self.old.tokens (option_copied result) self.new.tokens }
+        ensures names { KeepsNames self.old self.new }
+    {
+        self.tokens.take_word()
+    }
+
+    pub(crate) fn take_digits(&mut self) -> Option<&'t [u8]>
+        ensures first { TakesFirst digits_in self.old.tokens (option_copied result) self.new.tokens }
+        ensures names { KeepsNames self.old self.new }
+    {
+        self.tokens.take_digits()
+    }
+
+    pub(crate) fn take_op(&mut self) -> Option<Op>
+        ensures first { TakesFirst op_in self.old.tokens result self.new.tokens }
+        ensures names { KeepsNames self.old self.new }
+    {
+        self.tokens.take_op()
+    }
+
+    // Whether no token is left.
+    pub(crate) fn is_done(&mut self) -> bool
+        ensures done { result ≡ is_empty self.old.tokens }
+        ensures names { KeepsNames self.old self.new }
+    {
+        self.tokens.next().is_none()
+    }
+
+    // The labels that the names lack, in the order in which they came.
+    pub(crate) fn into_labels(self) -> Vec<&'t [u8]>
+        ensures { NewLabels self.entry (map (λ l. l.now) result.items) }
+    {
+        let ConditionReader {
+            tokens: _,
+            names: _,
+            labels,
+        } = self;
+        labels
+    }
+}

@@ -1,0 +1,244 @@
+ghost use Rattle.std.specs.List.{list_all};
+ghost use Rattle.update_reader.specs.Names.{Names as NameList};
+ghost use Rattle.std.specs.Prelude.{◌≡◌, ◌<◌, ◌++◌, codes, decimal, length, IfOk, IsTrue, Ok, OnOk};
+ghost use Rattle.program_grammar.specs.Programs.{LinesFit, program_said};
+ghost use Rattle.program_grammar.specs.Text.{cond_text, factor_text, knows, knows_term, label_text, mode_text, op_text, program_text, sum_text, term_text, text_at, written_cond};
+
+use crate::header::HeaderReader;
+use filter_polarity::{Cond, Factor, Op, Program, Term};
+use graph_types::{LabelId, Mode, NoMemory};
+use itoa::Buffer;
+use job_io::{ByteList, LineList};
+use std::alloc::Global;
+use update_reader::Names;
+
+/// The five lines of a program, with no more parentheses than are needed and one blank between tokens, but none
+/// in a use of a term and none right inside of parentheses. Read with these names they give the program back, and add
+/// no name. Takes time linear in the lines.
+pub fn write_program(alloc: Global, p: &Program, names: &Names) -> Result<LineList, NoMemory>
+    requires filter_known { IsTrue (knows names.now p.now.filter) }
+    requires matching_known { IsTrue (knows names.now p.now.matching) }
+    ensures written { IfOk result (λ lines. lines ≡ program_text names.now p.now) }
+    ensures fits { IfOk result (λ lines. LinesFit HeaderReader.Mode lines names.now) }
+    ensures read_back { IfOk result (λ lines. program_said lines names.now ≡ (Ok p.now, names.now)) }
+{
+    // By this call the names tell that they are labels, each once.
+    let _ = names.count();
+    let mut lines = LineList::new(alloc);
+    lines.push(mode_line(alloc, p.mode())?)?;
+    lines.push(size_line(alloc, p.size())?)?;
+    lines.push(cond_line(alloc, b"filter ", p.filter().cond(), names)?)?;
+    lines.push(cond_line(alloc, b"match ", p.matching(), names)?)?;
+    lines.push(word_line(alloc, b"begin")?)?;
+    Ok(lines)
+}
+
+fn word_line(alloc: Global, word: &[u8]) -> Result<ByteList, NoMemory>
+    ensures { IfOk result (λ line. line ≡ word.now) }
+{
+    let mut line = ByteList::new(alloc);
+    put(&mut line, word)?;
+    Ok(line)
+}
+
+fn mode_line(alloc: Global, mode: Mode) -> Result<ByteList, NoMemory>
+    ensures { IfOk result (λ line. line ≡ codes "mode " ++ mode_text mode) }
+{
+    match mode {
+        Mode::Vertex => word_line(alloc, b"mode vertex"),
+        Mode::Edge => word_line(alloc, b"mode edge"),
+    }
+}
+
+fn size_line(alloc: Global, size: u8) -> Result<ByteList, NoMemory>
+    ensures { IfOk result (λ line. line ≡ codes "size " ++ decimal size) }
+{
+    let mut line = word_line(alloc, b"size ")?;
+    put_number(&mut line, u32::from(size))?;
+    Ok(line)
+}
+
+fn cond_line(alloc: Global, word: &[u8], cond: &Cond, names: &Names) -> Result<ByteList, NoMemory>
+    requires { IsTrue (knows names.now cond.now) }
+    ensures { IfOk result (λ line. line ≡ word.now ++ cond_text names.now cond.now) }
+{
+    let mut line = word_line(alloc, word)?;
+    put_cond(&mut line, cond, names)?;
+    Ok(line)
+}
+
+#[cycle(put)]
+fn put_cond(line: &mut ByteList, cond: &Cond, names: &Names) -> Result<(), NoMemory>
+    requires { IsTrue (knows names.now cond.now) }
+    ensures { OnOk result (line.new ≡ line.old ++ cond_text names.now cond.now) }
+{
+    match cond {
+        Cond::True => put(line, b"true"),
+        Cond::False => put(line, b"false"),
+        Cond::Compare { sum, op, bound } => put_comparison(
+            line,
+            sum.as_slice(),
+            *op,
+            *bound,
+            names,
+        ),
+        Cond::Not(c) => {
+            put(line, b"not ")?;
+            put_at(line, 2, c.get(), names)
+        }
+        Cond::And(c, d) => {
+            put_at(line, 1, c.get(), names)?;
+            put(line, b" and ")?;
+            put_at(line, 2, d.get(), names)
+        }
+        Cond::Or(c, d) => {
+            put_at(line, 0, c.get(), names)?;
+            put(line, b" or ")?;
+            put_at(line, 1, d.get(), names)
+        }
+    }
+}
+
+// In parentheses where the condition binds less than its place asks.
+#[cycle(put)]
+fn put_at(line: &mut ByteList, asked: u8, cond: &Cond, names: &Names) -> Result<(), NoMemory>
+    requires { IsTrue (knows names.now cond.now) }
+    ensures { OnOk result (line.new ≡ line.old ++ text_at asked (written_cond names.now cond.now)) }
+{
+    if binding(cond) >= asked {
+        return put_cond(line, cond, names);
+    }
+    put(line, b"(")?;
+    put_cond(line, cond, names)?;
+    put(line, b")")
+}
+
+// How tightly a condition binds.
+fn binding(cond: &Cond) -> u8
+    ensures { (names : NameList) → result ≡ (written_cond names cond.now).binding }
+{
+    match cond {
+        Cond::Or(_, _) => 0,
+        Cond::And(_, _) => 1,
+        _ => 2,
+    }
+}
+
+fn put_comparison(
+    line: &mut ByteList,
+    sum: &[Factor],
+    op: Op,
+    bound: u32,
+    names: &Names,
+) -> Result<(), NoMemory>
+    requires { IsTrue (list_all (λ f. knows_term names.now f.term) sum.now) }
+    ensures { OnOk result (line.new ≡ line.old ++ (sum_text names.now sum.now ++ codes " " ++ op_text op ++ codes " " ++ decimal bound)) }
+{
+    put_sum(line, sum, names)?;
+    put(line, b" ")?;
+    put(line, op_bytes(op))?;
+    put(line, b" ")?;
+    put_number(line, bound)
+}
+
+fn put_sum(line: &mut ByteList, sum: &[Factor], names: &Names) -> Result<(), NoMemory>
+    requires { IsTrue (list_all (λ f. knows_term names.now f.term) sum.now) }
+    ensures { OnOk result (line.new ≡ line.old ++ sum_text names.now sum.now) }
+{
+    let [first, more @ ..] = sum else {
+        return Ok(());
+    };
+    put_factor(line, first, names)?;
+    let mut rest = more;
+    while let [factor, later @ ..] = rest {
+        put(line, b" + ")?;
+        put_factor(line, factor, names)?;
+        rest = later;
+    }
+    Ok(())
+}
+
+fn put_factor(line: &mut ByteList, factor: &Factor, names: &Names) -> Result<(), NoMemory>
+    requires { IsTrue (knows_term names.now factor.now.term) }
+    ensures { OnOk result (line.new ≡ line.old ++ factor_text names.now factor.now) }
+{
+    if factor.times != 1 {
+        put_number(line, factor.times)?;
+        put(line, b"*")?;
+    }
+    put_term(line, &factor.term, names)
+}
+
+fn put_term(line: &mut ByteList, term: &Term, names: &Names) -> Result<(), NoMemory>
+    requires { IsTrue (knows_term names.now term.now) }
+    ensures { OnOk result (line.new ≡ line.old ++ term_text names.now term.now) }
+{
+    match term {
+        Term::Vertices(None) => put(line, b"vertices"),
+        Term::Vertices(Some(l)) => put_labelled(line, b"vertices(", *l, names),
+        Term::Edges(None) => put(line, b"edges"),
+        Term::Edges(Some(l)) => put_labelled(line, b"edges(", *l, names),
+        Term::Joins(l, m) => {
+            put(line, b"joins(")?;
+            put_label(line, *l, names)?;
+            put(line, b",")?;
+            put_label(line, *m, names)?;
+            put(line, b")")
+        }
+        Term::Kinds => put(line, b"kinds"),
+        Term::Degree => put(line, b"degree"),
+        Term::Missing => put(line, b"missing"),
+        Term::Least => put(line, b"least"),
+    }
+}
+
+fn put_labelled(
+    line: &mut ByteList,
+    front: &[u8],
+    label: LabelId,
+    names: &Names,
+) -> Result<(), NoMemory>
+    requires { label < length names.now }
+    ensures { OnOk result (line.new ≡ line.old ++ (front.now ++ label_text names.now label ++ codes ")")) }
+{
+    put(line, front)?;
+    put_label(line, label, names)?;
+    put(line, b")")
+}
+
+fn put_label(line: &mut ByteList, label: LabelId, names: &Names) -> Result<(), NoMemory>
+    requires { label < length names.now }
+    ensures { OnOk result (line.new ≡ line.old ++ label_text names.now label) }
+{
+    let name = names.name(label).unwrap();
+    put(line, name)
+}
+
+fn put_number(line: &mut ByteList, number: u32) -> Result<(), NoMemory>
+    ensures { OnOk result (line.new ≡ line.old ++ decimal number) }
+{
+    let mut digits = Buffer::new();
+    put(line, digits.format(number).as_bytes())
+}
+
+fn put(line: &mut ByteList, bytes: &[u8]) -> Result<(), NoMemory>
+    ensures { OnOk result (line.new ≡ line.old ++ bytes.now) }
+{
+    for b in bytes {
+        line.push(*b)?;
+    }
+    Ok(())
+}
+
+fn op_bytes(op: Op) -> &'static [u8]
+    ensures { result.now ≡ op_text op }
+{
+    match op {
+        Op::AtMost => b"<=",
+        Op::Below => b"<",
+        Op::AtLeast => b">=",
+        Op::Above => b">",
+        Op::Equal => b"=",
+        Op::Unequal => b"!=",
+    }
+}

@@ -1,0 +1,39 @@
+-- What is known of a source's bytes, and its lines.
+use Rattle.std.proofs.Common.{◌≡◌, ◌≢◌, ℕ, true, false, List, [], ◌∷◌, inl, inr, Option, None, Some, refl, ap, ◌∙◌}
+use Rattle.job_io.specs.Ends.{BothKnown}
+use Rattle.job_io.specs.Lines.{Line, lines_of}
+use Rattle.job_io.proofs.LinesOf.{lf_or_none, lines_of-whole, lines_of-last}
+
+-- what is known of bytes that have not changed
+pub BothKnown-same : (P : List ℕ → List ℕ → Type 0) (known : Option (List ℕ)) →
+    ((bytes : List ℕ) → P bytes bytes) → BothKnown known known P
+BothKnown-same P None p = tt
+BothKnown-same P (Some bytes) p = p bytes
+
+-- what is known of one change and of the next
+pub BothKnown-then : (P Q R : List ℕ → List ℕ → Type 0) (old mid new : Option (List ℕ)) →
+    BothKnown old mid P → BothKnown mid new Q →
+    ((was now is : List ℕ) → P was now → Q now is → R was is) → BothKnown old new R
+BothKnown-then P Q R None mid new p q join = tt
+BothKnown-then P Q R (Some was) None new p q join = absurd p
+BothKnown-then P Q R (Some was) (Some now) None p q join = absurd q
+BothKnown-then P Q R (Some was) (Some now) (Some is) p q join = join was now is p q
+
+pub BothKnown-map : (P Q : List ℕ → List ℕ → Type 0) (old new : Option (List ℕ)) →
+    BothKnown old new P → ((was is : List ℕ) → P was is → Q was is) → BothKnown old new Q
+BothKnown-map P Q None new p f = tt
+BothKnown-map P Q (Some was) None p f = absurd p
+BothKnown-map P Q (Some was) (Some is) p f = f was is p
+
+-- a text that has a byte has a line
+pub some_line : (text : List ℕ) → text ≢ [] →
+    (line : Line) × (others : List Line) × (lines_of text ≡ line ∷ others)
+some_line [] nonempty = absurd (nonempty refl)
+some_line (b ∷ bs) nonempty = elim (lf_or_none (b ∷ bs)) [
+  | inl first ↦ (
+    record { bytes = first.line; whole = true },
+    lines_of first.rest,
+    ap lines_of first.split ∙ lines_of-whole first.line first.rest first.no_lf,
+  )
+  | inr none ↦ (record { bytes = b ∷ bs; whole = false }, [], lines_of-last b bs none)
+]

@@ -1,0 +1,195 @@
+-- The pieces that a fold comes to are those that its text tells of.
+use Rattle.std.proofs.Common.{◌≡◌, ℕ, suc, ◌<◌, ◌≤◌, ◌⊎◌, inl, inr, Bool, true, false, cond, eqb}
+use Rattle.std.proofs.Common.{List, [], ◌∷◌, None, Some, Option, Result, Ok, Err}
+use Rattle.std.proofs.Common.{refl, sym, ap, ◌∙◌, subst, arith}
+use Rattle.std.specs.Prelude.{filter}
+use Rattle.std.specs.Option.{option_and_then}
+use Rattle.std.proofs.lemmas.Bool.{cases_eq, ne_eqb, eq-eqb}
+use Rattle.graph_types.specs.Piece.{PieceValue}
+use Rattle.job_io.specs.Lines.{Line, lines_of, whole_lines_of}
+use Rattle.snapshot_fold.specs.declared.folding.FoldStop.{FoldStop}
+use Rattle.snapshot_fold.specs.declared.folding.FoldStop.TheVariants as stop
+use Rattle.snapshot_fold.specs.FoldState.{FoldState, start}
+use Rattle.snapshot_fold.specs.FoldText.{behind_line, pieces_where_done, fold_text}
+use Rattle.snapshot_fold.specs.Folding.{one_line, is_reached, at_end, led_on, folded_from, folded}
+use Rattle.snapshot_fold.specs.Folding.{last_done_from, last_done}
+use Rattle.snapshot_fold.specs.Folds.{stamp_folded}
+use Rattle.snapshot_fold.proofs.Judging.{Moves, stays, rises, SaysRecord, one_line-says, one_line-torn}
+use Rattle.snapshot_fold.proofs.Judging.{behind_line-is, line-closes}
+
+abbrev Outcome : Type 0
+Outcome = Result (List PieceValue) FoldStop
+
+abbrev wholes : List Line → List Line
+wholes lines = filter (λ line. line.whole) lines
+
+-- what the lines behind the first one come to
+abbrev pub rest_from : ℕ → Option ℕ → ℕ → Line → List Line → FoldState → Outcome
+rest_from most at n line lines behind = folded_from most at (cond line.whole (suc n) n) behind lines
+
+-- where the timestamp that is named is done, its pieces are the outcome
+pub folded_from-reached : (most : ℕ) (at : Option ℕ) (n : ℕ) (s : FoldState) (lines : List Line) →
+    is_reached at s.done ≡ true → folded_from most at n s lines ≡ Ok s.settled
+folded_from-reached most at n s [] reached = ap (λ b. cond b (Ok s.settled) (at_end at n s)) reached
+folded_from-reached most at n s (line ∷ lines) reached =
+    ap (λ b. cond b (Ok s.settled) (led_on (one_line most (suc n) s line) (rest_from most at n line lines))) reached
+
+-- where lines led to pieces, the first of them led on
+record LedOn (led : Result FoldState FoldStop) (rest : FoldState → Outcome) (outcome : Outcome) : Type 0 where
+  behind : FoldState
+  led_is : led ≡ Ok behind
+  rest_is : rest behind ≡ outcome
+
+led_on-ok : (led : Result FoldState FoldStop) (rest : FoldState → Outcome) (pieces : List PieceValue) →
+    led_on led rest ≡ Ok pieces → LedOn led rest (Ok pieces)
+led_on-ok (Ok behind) rest pieces so = record { behind = behind; led_is = refl; rest_is = so }
+led_on-ok (Err why) rest pieces so = cc
+
+pub folded_from-cons : (most : ℕ) (at : Option ℕ) (n : ℕ) (s : FoldState) (line : Line) (lines : List Line) →
+    is_reached at s.done ≡ false →
+    folded_from most at n s (line ∷ lines) ≡ led_on (one_line most (suc n) s line) (rest_from most at n line lines)
+folded_from-cons most at n s line lines later =
+    ap (λ b. cond b (Ok s.settled) (led_on (one_line most (suc n) s line) (rest_from most at n line lines))) later
+
+pieces_where_done-cons : (s behind : FoldState) (line : Line) (lines : List Line) (t : ℕ) → behind_line s line ≡ Some behind →
+    pieces_where_done s (line ∷ lines) t ≡ cond (eqb behind.done t) (Some behind.settled) (pieces_where_done behind lines t)
+pieces_where_done-cons s behind line lines t is =
+    ap (option_and_then (λ b. cond (eqb b.done t) (Some b.settled) (pieces_where_done b lines t))) is
+
+-- ---- at a timestamp that is named
+
+module _ (most t : ℕ) (line : Line) (lines : List Line) (pieces : List PieceValue)
+    (behind_tells : (m : ℕ) (b : FoldState) → eqb b.done t ≡ false → folded_from most (Some t) m b lines ≡ Ok pieces →
+    pieces_where_done b (wholes lines) t ≡ Some pieces) where
+  tells_behind : (n : ℕ) (s behind : FoldState) → behind_line s line ≡ Some behind →
+      folded_from most (Some t) n behind lines ≡ Ok pieces →
+      pieces_where_done s (line ∷ wholes lines) t ≡ Some pieces
+  tells_behind n s behind is so =
+      let by_test : (b : Bool) → eqb behind.done t ≡ b →
+      cond b (Some behind.settled) (pieces_where_done behind (wholes lines) t) ≡ Some pieces =
+      elim [
+        | true ↦ λ done.
+            let same : ◌≡◌ {A = Outcome} (Ok behind.settled) (Ok pieces) = sym (folded_from-reached most (Some t) n behind lines done) ∙ so in
+            let e : behind.settled ≡ pieces = cc in ap Some e
+        | false ↦ λ later. behind_tells n behind later so
+      ] in
+      pieces_where_done-cons s behind line (wholes lines) t is ∙ by_test (eqb behind.done t) refl
+
+  tells_line : (n : ℕ) (s : FoldState) → eqb s.done t ≡ false → (w : Bool) → line.whole ≡ w →
+      LedOn (one_line most (suc n) s line) (rest_from most (Some t) n line lines) (Ok pieces) →
+      pieces_where_done s (cond w (line ∷ wholes lines) (wholes lines)) t ≡ Some pieces
+  tells_line n s later true whole led =
+      tells_behind (cond line.whole (suc n) n) s led.behind
+      (behind_line-is s led.behind line (one_line-says most (suc n) s line led.behind whole led.led_is)) led.rest_is
+  tells_line n s later false torn led =
+      let same : s ≡ led.behind = one_line-torn most (suc n) s line led.behind torn led.led_is in
+      behind_tells (cond line.whole (suc n) n) s later
+      (ap (λ b. folded_from most (Some t) (cond line.whole (suc n) n) b lines) same ∙ led.rest_is)
+
+told_at : (most n t : ℕ) (s : FoldState) (lines : List Line) (pieces : List PieceValue) → eqb s.done t ≡ false →
+    folded_from most (Some t) n s lines ≡ Ok pieces → pieces_where_done s (wholes lines) t ≡ Some pieces
+told_at most n t s [] pieces later so =
+    let never : ◌≡◌ {A = Outcome} (Err (stop.NotDone n)) (Ok pieces) = ap (λ b. cond b (Ok s.settled) (Err (stop.NotDone n))) (sym later) ∙ so in cc
+told_at most n t s (line ∷ lines) pieces later so =
+    tells_line most t line lines pieces (λ m b. told_at most m t b lines pieces) n s later line.whole refl
+    (led_on-ok _ _ pieces (sym (folded_from-cons most (Some t) n s line lines later) ∙ so))
+
+-- ---- at the last timestamp that is done
+
+-- no timestamp more is done, or the pieces are told at the last one
+abbrev ToldLast : FoldState → List Line → List PieceValue → Type 0
+ToldLast s lines pieces =
+    ((last_done_from s.done lines ≡ s.done) × (s.settled ≡ pieces))
+    ⊎ ((s.done < last_done_from s.done lines) × (pieces_where_done s lines (last_done_from s.done lines) ≡ Some pieces))
+
+module _ (s behind : FoldState) (line : Line) (lines : List Line) (pieces : List PieceValue)
+    (says : SaysRecord s behind line) where
+  last_is : last_done_from s.done (line ∷ lines) ≡ last_done_from behind.done lines
+  last_is = ap (λ t. last_done_from t lines) (line-closes s behind line says).0
+
+  told_there : (t : ℕ) → last_done_from behind.done lines ≡ t → eqb behind.done t ≡ true → behind.settled ≡ pieces →
+      s.done < t → ToldLast s (line ∷ lines) pieces
+  told_there t last here same above =
+      inr (
+        subst (λ u. s.done < u) (sym (last_is ∙ last)) above,
+        ap (pieces_where_done s (line ∷ lines)) (last_is ∙ last)
+            ∙ pieces_where_done-cons s behind line lines t (behind_line-is s behind line says)
+            ∙ ap (λ b. cond b (Some behind.settled) (pieces_where_done behind lines t)) here
+            ∙ ap Some same,
+      )
+
+  told_later : s.done ≤ behind.done → behind.done < last_done_from behind.done lines →
+      pieces_where_done behind lines (last_done_from behind.done lines) ≡ Some pieces → ToldLast s (line ∷ lines) pieces
+  told_later near above told =
+      let t = last_done_from behind.done lines in
+      inr (
+        subst (λ u. s.done < u) (sym last_is) (omega (arith, near, above)),
+        ap (pieces_where_done s (line ∷ lines)) last_is
+            ∙ pieces_where_done-cons s behind line lines t (behind_line-is s behind line says)
+            ∙ ap (λ b. cond b (Some behind.settled) (pieces_where_done behind lines t))
+            (ne_eqb behind.done t (λ e. omega (arith, above, e)))
+            ∙ told,
+      )
+
+  told_behind : Moves s behind → ToldLast behind lines pieces → ToldLast s (line ∷ lines) pieces
+  told_behind (stays done settled) (inl last) =
+      inl (last_is ∙ last.0 ∙ done, sym settled ∙ last.1)
+  told_behind (stays done settled) (inr later) =
+      told_later (omega (arith, done)) later.0 later.1
+  told_behind (rises done) (inl last) =
+      told_there behind.done last.0 (eq-eqb behind.done behind.done refl) last.1 (omega (arith, done))
+  told_behind (rises done) (inr later) =
+      told_later (omega (arith, done)) later.0 later.1
+
+module _ (most : ℕ) (line : Line) (lines : List Line) (pieces : List PieceValue)
+    (behind_tells : (m : ℕ) (b : FoldState) → folded_from most None m b lines ≡ Ok pieces → ToldLast b (wholes lines) pieces) where
+  last_line : (n : ℕ) (s : FoldState) → (w : Bool) → line.whole ≡ w →
+      LedOn (one_line most (suc n) s line) (rest_from most None n line lines) (Ok pieces) →
+      ToldLast s (cond w (line ∷ wholes lines) (wholes lines)) pieces
+  last_line n s true whole led =
+      let says = one_line-says most (suc n) s line led.behind whole led.led_is in
+      told_behind s led.behind line (wholes lines) pieces says (line-closes s led.behind line says).1
+      (behind_tells (cond line.whole (suc n) n) led.behind led.rest_is)
+  last_line n s false torn led =
+      let same : s ≡ led.behind = one_line-torn most (suc n) s line led.behind torn led.led_is in
+      behind_tells (cond line.whole (suc n) n) s
+      (ap (λ b. folded_from most None (cond line.whole (suc n) n) b lines) same ∙ led.rest_is)
+
+told_last : (most n : ℕ) (s : FoldState) (lines : List Line) (pieces : List PieceValue) →
+    folded_from most None n s lines ≡ Ok pieces → ToldLast s (wholes lines) pieces
+told_last most n s [] pieces so = let e : s.settled ≡ pieces = cc in inl (refl, e)
+told_last most n s (line ∷ lines) pieces so =
+    last_line most line lines pieces (λ m b. told_last most m b lines pieces) n s line.whole refl
+    (led_on-ok _ _ pieces so)
+
+-- ---- of a whole text
+
+told-named : (most t : ℕ) (text : List ℕ) (pieces : List PieceValue) → folded most (Some t) (lines_of text) ≡ Ok pieces →
+    fold_text text t ≡ Some pieces
+told-named most t text pieces so =
+    elim (cases_eq t 0) as (λ _. fold_text text t ≡ Some pieces) [
+      | inl none ↦
+          let same : ◌≡◌ {A = Outcome} (Ok []) (Ok pieces) =
+          sym (folded_from-reached most (Some t) 0 start (lines_of text) (eq-eqb 0 t (sym none))) ∙ so in
+          let e : [] ≡ pieces = cc in
+          ap (fold_text text) none ∙ ap Some e
+      | inr some ↦
+          ap (λ b. cond b (Some []) (pieces_where_done start (whole_lines_of text) t)) (ne_eqb t 0 some)
+          ∙ told_at most 0 t start (lines_of text) pieces (ne_eqb 0 t (λ e. some (sym e))) so
+    ]
+
+told-end : (most : ℕ) (text : List ℕ) (pieces : List PieceValue) → folded most None (lines_of text) ≡ Ok pieces →
+    fold_text text (last_done (whole_lines_of text)) ≡ Some pieces
+told-end most text pieces so =
+    elim (told_last most 0 start (lines_of text) pieces so) [
+      | inl none ↦ ap (fold_text text) none.0 ∙ ap Some none.1
+      | inr some ↦
+          let t = last_done (whole_lines_of text) in
+          ap (λ b. cond b (Some []) (pieces_where_done start (whole_lines_of text) t)) (ne_eqb t 0 (λ e. omega (arith, some.0, e)))
+          ∙ some.1
+    ]
+
+pub told : (most : ℕ) (at : Option ℕ) (text : List ℕ) (pieces : List PieceValue) → folded most at (lines_of text) ≡ Ok pieces →
+    fold_text text (stamp_folded at text) ≡ Some pieces
+told most None text pieces so = told-end most text pieces so
+told most (Some t) text pieces so = told-named most t text pieces so

@@ -1,0 +1,55 @@
+-- Which command the first word names.
+use Rattle.std.proofs.Common.{◌≡◌, Bool, true, false, ℕ, List, [], ◌∷◌, codes, Option, None, Some, if◌then◌else◌, refl, ap}
+use Rattle.std.specs.Option.{option_and_then, option_map}
+use Rattle.std.specs.Str.{bytes_eq}
+use Rattle.std.proofs.lemmas.Slice.Eq.{bytes_eq-Decides}
+use Rattle.command_words.specs.declared.command.Verb.{Verb}
+use Rattle.command_words.specs.declared.command.Verb.TheVariants.{Mine, Fold}
+use Rattle.command_words.specs.declared.command.Options.{Options}
+use Rattle.command_words.specs.declared.command.Command.{Command}
+use Rattle.command_words.specs.Words.{command_of, options_said, verb_of}
+use Rattle.tesseract.specs.Commands.{fold_command, is_still, mine_command}
+
+-- a command with options that were given
+of_verb : (verb : Verb) (options : Option Options) (c : Command) →
+    option_map (λ options. record { verb = verb; options = options }) options ≡ Some c → verb ≡ c.verb
+of_verb verb None c given = absurd (let e : None ≡ Some c = given in cc)
+of_verb verb (Some options) c given =
+    let e : Some (record { verb = verb; options = options }) ≡ Some c = given in
+    let same : ◌≡◌ {A = Command} (record { verb = verb; options = options }) c = cc in
+    ap (λ (c : Command). c.verb) same
+
+named : (verb : Option Verb) (said : Verb → Option Options) (c : Command) →
+    option_and_then (λ verb. option_map (λ options. record { verb = verb; options = options }) (said verb)) verb ≡ Some c →
+    verb ≡ Some c.verb
+named None said c given = absurd (let e : None ≡ Some c = given in cc)
+named (Some verb) said c given = ap Some (of_verb verb (said verb) c given)
+
+-- the command is that of the first word
+first_word : (word : List ℕ) (words : List (List ℕ)) (c : Command) → command_of (word ∷ words) ≡ Some c →
+    verb_of word ≡ Some c.verb
+first_word word words c given = named (verb_of word) (λ verb. options_said verb words) c given
+
+is_fold : (m f : Bool) → (if m then Some Mine else if f then Some Fold else None) ≡ Some Fold → f ≡ true
+is_fold true f named = absurd (let e : Some Mine ≡ Some Fold = named in cc)
+is_fold false true named = refl
+is_fold false false named = absurd (let e : None ≡ Some Fold = named in cc)
+
+is_mine : (m f : Bool) → (if m then Some Mine else if f then Some Fold else None) ≡ Some Mine → m ≡ true
+is_mine true f named = refl
+is_mine false true named = absurd (let e : Some Fold ≡ Some Mine = named in cc)
+is_mine false false named = absurd (let e : None ≡ Some Mine = named in cc)
+
+-- to fold takes one thread alone
+pub fold_is_still : (words : List (List ℕ)) (at : Option ℕ) → command_of words ≡ Some (fold_command at) →
+    is_still words ≡ true
+fold_is_still [] at given = absurd (let e : None ≡ Some (fold_command at) = given in cc)
+fold_is_still (word ∷ words) at given =
+    is_fold (bytes_eq word (codes "mine")) (bytes_eq word (codes "fold")) (first_word word words (fold_command at) given)
+
+-- to mine does not
+pub mine_is_not_still : (words : List (List ℕ)) → command_of words ≡ Some mine_command → is_still words ≡ false
+mine_is_not_still [] given = refl
+mine_is_not_still (word ∷ words) given =
+    let m = is_mine (bytes_eq word (codes "mine")) (bytes_eq word (codes "fold")) (first_word word words mine_command given) in
+    ap (λ word. bytes_eq word (codes "fold")) ((bytes_eq-Decides word (codes "mine")).0 m)

@@ -1,0 +1,19 @@
+//! The law of the records over whole jobs: a contract of a function that does nothing.
+
+ghost use Rattle.std.specs.Prelude.{◌≡◌, ◌≤◌, ◌^◌, ℕ, List, length, Some};
+ghost use Rattle.job_io.specs.Lines.{Line};
+ghost use Rattle.mining_model.specs.Embeddings.{Pattern, embeddings};
+ghost use Rattle.mining_model.specs.Step.{snapshot};
+ghost use Rattle.snapshot_fold.specs.FoldText.{fold_text};
+ghost use Rattle.snapshot_fold.specs.Records.{pieces_of};
+ghost use Rattle.tesseract.specs.Job.{verdict, text_of};
+
+/// Folding what is written for a job up to any timestamp of it gives the embeddings of the snapshot there,
+/// each once and in their order.
+pub fn records_tell_embeddings()
+    ensures { (most : ℕ) (lines : List Line) (pattern : Pattern) (t : ℕ) →
+        most ≤ 10 ^ 19 → (verdict most lines).pattern ≡ Some pattern →
+        t ≤ length (verdict most lines).updates →
+        fold_text (text_of (verdict most lines)) t
+        ≡ Some (pieces_of pattern.mode (embeddings pattern (snapshot (verdict most lines).updates t))) }
+{}
