@@ -11,10 +11,21 @@ use std::sync::Wait;
 use std::test::Fail;
 use std::thread::Threads;
 
-/// Two vertices and the edge between them.
-const JOB: &[u8] = b"mode vertex\nsize 2\nfilter true\nmatch true\nbegin\n+v 1\n+v 2\n+e 1 2\n";
+/// A triangle that comes with its last edge.
+const JOB: &[u8] = b"mode vertex
+size 3
+filter true
+match vertices = 3 and edges = 3
+begin
++v 1 a
++v 2 a
++v 3 a
++e 1 2
++e 2 3
++e 1 3
+";
 
-const TEXT: &[u8] = b"NEW 1 1\nDONE 1\nNEW 2 2\nDONE 2\nNEW 3 1 2\nDONE 3\n";
+const TEXT: &[u8] = b"DONE 1\nDONE 2\nDONE 3\nDONE 4\nDONE 5\nNEW 6 1 2 3\nDONE 6\n";
 
 /// A source of the job that gives at most `step` bytes a call.
 fn job_source(alloc: Global, step: usize, failing: &[u64]) -> Result<MemorySource, NoMemory>
@@ -94,12 +105,12 @@ fn mines_a_job_that_comes_byte_by_byte(rt: HostRuntime) -> Result<(), Fail> {
 
 #[test]
 fn writes_what_whole_lines_say_before_a_read_fault(rt: HostRuntime) -> Result<(), Fail> {
-    // All but the end of the last line was given.
-    let mined = run_mine(&rt, rt.alloc(), 1, &[63], &[], &[])?;
+    // Of the last line `+e 1` was given.
+    let mined = run_mine(&rt, rt.alloc(), 1, &[110], &[], &[])?;
     assert_eq!(rt; mined.status, Status::ReadFault);
     assert_eq!(rt;
         mined.out.bytes(),
-        b"NEW 1 1\nDONE 1\nNEW 2 2\nDONE 2\n".as_slice()
+        b"DONE 1\nDONE 2\nDONE 3\nDONE 4\nDONE 5\n".as_slice()
     );
     assert_eq!(rt; mined.err.bytes(), b"read fault\n".as_slice());
     Ok(())
@@ -109,7 +120,7 @@ fn writes_what_whole_lines_say_before_a_read_fault(rt: HostRuntime) -> Result<()
 fn writes_a_front_before_a_write_fault(rt: HostRuntime) -> Result<(), Fail> {
     let mined = run_mine(&rt, rt.alloc(), 1, &[], &[2], &[])?;
     assert_eq!(rt; mined.status, Status::WriteFault);
-    assert_eq!(rt; mined.out.bytes(), b"NEW 1".as_slice());
+    assert_eq!(rt; mined.out.bytes(), b"DONE ".as_slice());
     assert_eq!(rt; mined.err.bytes(), b"write fault\n".as_slice());
     Ok(())
 }
@@ -126,12 +137,12 @@ fn keeps_its_status_where_it_cannot_be_told(rt: HostRuntime) -> Result<(), Fail>
 fn stops_before_one_line_too_many(rt: HostRuntime) -> Result<(), Fail> {
     let limit = Status::Limit {
         kind: LimitKind::Lines,
-        at: 7,
+        at: 8,
     };
     let mut input = job_source(rt.alloc(), 1000, &[])?;
     let mut out = sink(rt.alloc(), &[])?;
-    assert_eq!(rt; mine(rt.alloc(), 6, &mut input, &mut out), limit);
-    assert_eq!(rt; out.bytes(), b"NEW 1 1\nDONE 1\n".as_slice());
+    assert_eq!(rt; mine(rt.alloc(), 7, &mut input, &mut out), limit);
+    assert_eq!(rt; out.bytes(), b"DONE 1\nDONE 2\n".as_slice());
     Ok(())
 }
 
