@@ -3,7 +3,7 @@ use Rattle.std.proofs.Common.{◌≡◌, ℕ, Bool, true, false, ◌&&◌, List,
 use Rattle.std.specs.Option.{option_map, option_map_or, option_and_then}
 use Rattle.command_words.specs.declared.command.Options.{Options}
 use Rattle.command_words.specs.declared.command.Verb.{Verb}
-use Rattle.command_words.specs.Words.{Setting, fits, is_in_order, options_of, options_said, settings_of}
+use Rattle.command_words.specs.meaning.Words.{Setting, fits, is_in_order, options_of, options_said, settings_of}
 use Rattle.command_words.proofs.Splitting.{after}
 
 -- the words are settings in order

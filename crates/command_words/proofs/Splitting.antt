@@ -4,7 +4,7 @@ use Rattle.std.specs.Option.{option_map, option_and_then}
 use Rattle.std.specs.List.{position}
 use Rattle.std.specs.Str.{bytes_eq}
 use Rattle.std.proofs.lemmas.List.{take_all, length-drop}
-use Rattle.command_words.specs.Words.{Setting, behind_dashes, is_equals, one_word, parted, setting, settings_of, two_words, value_named}
+use Rattle.command_words.specs.meaning.Words.{Setting, behind_dashes, is_equals, one_word, parted, setting, settings_of, two_words, value_named}
 
 -- the settings that begin with s
 abbrev pub after : Setting → List (List ℕ) → Option (List Setting)

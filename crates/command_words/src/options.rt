@@ -1,10 +1,10 @@
 ghost use Rattle.std.specs.Prelude.{◌≡◌, List, Some, false, map, string_bytes};
 ghost use Rattle.std.specs.Option.{option_map_or};
-ghost use Rattle.command_words.specs.Words.{fits as fits_before, has as has_option, is_in_order, is_number_within, number_named as number_given, options_said, settings_of, Setting as SettingValue, setting as setting_of, takes as takes_value};
+ghost use Rattle.command_words.specs.meaning.Words.{fits as fits_before, has as has_option, is_in_order, is_number_within, number_named as number_given, options_said, settings_of, Setting as SettingValue, setting as setting_of, takes as takes_value};
 
 use crate::command::{Options, Verb};
 use crate::settings::{Setting, split_setting, value_named};
-use job_io::read_number;
+use line_fields::read_number;
 
 /// The most digits of a number.
 const DIGITS: usize = 10;

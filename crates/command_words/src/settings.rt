@@ -1,7 +1,7 @@
 ghost use Rattle.std.specs.Prelude.{◌≡◌, ◌≤◌, ◌∷◌, List, IfSome, MatchOption, Some, None, length, map, string_bytes};
 ghost use Rattle.std.specs.List.{position};
 ghost use Rattle.std.specs.Option.{option_map};
-ghost use Rattle.command_words.specs.Words.{Setting as SettingValue, behind_dashes as text_behind_dashes, is_equals, parted, setting as setting_of, settings_of, value_named as value_given};
+ghost use Rattle.command_words.specs.meaning.Words.{Setting as SettingValue, behind_dashes as text_behind_dashes, is_equals, parted, setting as setting_of, settings_of, value_named as value_given};
 
 /// An option as it stands on the command line: a name, and the value that it is given.
 #[derive(Clone, Copy)]

@@ -1,5 +1,5 @@
 ghost use Rattle.std.specs.Prelude.{◌≡◌, MatchResult, None, Some, map, string_bytes};
-ghost use Rattle.command_words.specs.Words.{command_of, verb_of};
+ghost use Rattle.command_words.specs.meaning.Words.{command_of, verb_of};
 
 use crate::command::{Command, Verb, WordsFault};
 use crate::options::read_options;

@@ -1,6 +1,6 @@
-pub use Rattle.mining_model.specs.Picture
-pub use Rattle.mining_model.specs.Embeddings
-pub use Rattle.mining_model.specs.Changes
-pub use Rattle.filter_polarity.specs.Counts
-pub use Rattle.filter_polarity.specs.Meaning
-pub mod Patterns
+pub use Rattle.mining_model.specs.meaning.Picture
+pub use Rattle.mining_model.specs.meaning.Embeddings
+pub use Rattle.mining_model.specs.meaning.Changes
+pub use Rattle.conditions.specs.meaning.Counts
+pub use Rattle.conditions.specs.meaning.Conditions
+pub mod meaning

@@ -1,9 +1,4 @@
-pub mod Counting
 pub mod Retained
 pub mod Parts
-pub mod Forms
 pub mod Passing
-pub mod Tokens
 pub mod Smaller
-pub mod MissingPairs
-pub mod Emptiness

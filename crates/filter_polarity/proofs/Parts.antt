@@ -9,22 +9,22 @@ use Rattle.std.specs.Ordering.{nat_cmp, is_eq}
 use Rattle.std.proofs.lemmas.Bool.{and_parts, and_from, false≢true, or_cases, or_left, or_right}
 use Rattle.std.proofs.lemmas.Bool.Decides.{nat_tests}
 use Rattle.std.proofs.lemmas.List.Elements.{All-head, All-tail}
-use Rattle.graph_types.specs.Graph.{Graph, ends_at, has_edge, edge_between}
-use Rattle.graph_types.specs.Orders.{pair_cmp_total}
-use Rattle.graph_types.specs.Piece.{IsOfMode}
+use Rattle.graph_types.specs.meaning.Graph.{Graph, ends_at, has_edge, edge_between}
+use Rattle.graph_types.specs.meaning.Orders.{pair_cmp_total}
+use Rattle.graph_types.specs.meaning.Piece.{IsOfMode}
 use Rattle.graph_types.specs.declared.ids.Mode.{Mode}
 use Rattle.graph_types.specs.declared.ids.Mode.TheVariants as mode
 use Rattle.graph_types.specs.declared.member.Member.{Member}
 use Rattle.graph_types.specs.declared.member.Member.TheVariants as member
 use Rattle.graph_types.proofs.Graph.{pair_cmp-IsAntisymmetric}
-use Rattle.mining_model.specs.Connected.{vertices_of}
-use Rattle.mining_model.specs.Picture.{picture, touches, is_among, is_drawn}
+use Rattle.mining_model.specs.meaning.Connected.{vertices_of}
+use Rattle.mining_model.specs.meaning.Picture.{picture, touches, is_among, is_drawn}
 use Rattle.mining_model.proofs.VertexPictures.{has_edge-picture}
-use Rattle.filter_polarity.specs.declared.condition.Term.{Term}
-use Rattle.filter_polarity.specs.declared.condition.Term.TheVariants.{Vertices, Edges, Joins, Kinds, Degree, Missing, Least}
-use Rattle.filter_polarity.specs.Counts.{count, degree, edge_labels, edges_of, is_apart, is_asked, is_labelled, joins, largest, pairs, vertex_labels}
-use Rattle.filter_polarity.specs.Polarity.{is_rising_term}
-use Rattle.filter_polarity.proofs.Counting.{count_by-filter_le, count_by-map_filter_le, count_by-pairs_filter_le, distinct_count-map_filter_le, largest-filter_le}
+use Rattle.conditions.specs.declared.condition.Term.{Term}
+use Rattle.conditions.specs.declared.condition.Term.TheVariants.{Vertices, Edges, Joins, Kinds, Degree, Missing, Least}
+use Rattle.conditions.specs.meaning.Counts.{count, degree, edge_labels, edges_of, is_apart, is_asked, is_labelled, joins, largest, pairs, vertex_labels}
+use Rattle.filter_polarity.specs.meaning.Polarity.{is_rising_term}
+use Rattle.conditions.proofs.Counting.{count_by-filter_le, count_by-map_filter_le, count_by-pairs_filter_le, distinct_count-map_filter_le, largest-filter_le}
 use Rattle.filter_polarity.proofs.Retained.{entries-retain_keys, keys-retain_keys}
 
 -- what a picture keeps of a graph

@@ -3,21 +3,21 @@ use Rattle.std.proofs.Common.{ℕ, ◌*◌, ◌≤◌, Bool, true, false, not, �
 use Rattle.std.specs.List.{All}
 use Rattle.std.proofs.lemmas.Bool.{and_parts, and_from, false≢true, or_cases, or_left, or_right, ltb-true, leb-true, lt-ltb, le-leb}
 use Rattle.std.proofs.lemmas.List.Sums.{sum_by-cons}
-use Rattle.graph_types.specs.Graph.{Graph}
-use Rattle.graph_types.specs.Piece.{IsOfMode}
+use Rattle.graph_types.specs.meaning.Graph.{Graph}
+use Rattle.graph_types.specs.meaning.Piece.{IsOfMode}
 use Rattle.graph_types.specs.declared.ids.Mode.{Mode}
 use Rattle.graph_types.specs.declared.member.Member.{Member}
-use Rattle.mining_model.specs.Picture.{picture}
-use Rattle.filter_polarity.specs.declared.condition.Cond.{Cond}
-use Rattle.filter_polarity.specs.declared.condition.Cond.TheOpen.{Cond-F, True, False, Compare, Not, And, Or}
-use Rattle.filter_polarity.specs.declared.condition.Cond.TheFolds.{map-Cond}
-use Rattle.filter_polarity.specs.declared.condition.Factor.{Factor}
-use Rattle.filter_polarity.specs.declared.condition.Op.{Op}
-use Rattle.filter_polarity.specs.declared.condition.Op.TheVariants.{AtMost, Below, AtLeast, Above, Equal, Unequal}
-use Rattle.filter_polarity.specs.Counts.{count}
-use Rattle.filter_polarity.specs.Meaning.{compares, holds, holds_by, value}
-use Rattle.filter_polarity.specs.Polarity.{Polarity, bounds_above, bounds_below, falling, is_rising_sum, is_rising_term, polarity, polarity_of, rising}
-use Rattle.filter_polarity.proofs.Forms.{by_form, fold-form, of_form}
+use Rattle.mining_model.specs.meaning.Picture.{picture}
+use Rattle.conditions.specs.declared.condition.Cond.{Cond}
+use Rattle.conditions.specs.declared.condition.Cond.TheOpen.{Cond-F, True, False, Compare, Not, And, Or}
+use Rattle.conditions.specs.declared.condition.Cond.TheFolds.{map-Cond}
+use Rattle.conditions.specs.declared.condition.Factor.{Factor}
+use Rattle.conditions.specs.declared.condition.Op.{Op}
+use Rattle.conditions.specs.declared.condition.Op.TheVariants.{AtMost, Below, AtLeast, Above, Equal, Unequal}
+use Rattle.conditions.specs.meaning.Counts.{count}
+use Rattle.conditions.specs.meaning.Conditions.{compares, holds, holds_by, value}
+use Rattle.filter_polarity.specs.meaning.Polarity.{Polarity, bounds_above, bounds_below, falling, is_rising_sum, is_rising_term, polarity, polarity_of, rising}
+use Rattle.conditions.proofs.Forms.{by_form, fold-form, of_form}
 use Rattle.filter_polarity.proofs.Parts.{count-picture}
 
 -- comparisons

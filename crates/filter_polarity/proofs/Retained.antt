@@ -5,7 +5,7 @@ use Rattle.std.specs.FinMap as finite
 use Rattle.std.specs.FinMap.Entries.{where_key, is_sorted-where_key, find-where_key}
 use Rattle.std.specs.declared.cmp.Ordering.{Ordering}
 use Rattle.std.specs.declared.cmp.Ordering.TheVariants.{Equal}
-use Rattle.filter_polarity.proofs.Counting.{map-filter}
+use Rattle.conditions.proofs.Counting.{map-filter}
 
 module _ {K X : Type 0} {R : K → K → Ordering} (total : IsTotalOrder R) (same : finite.IsAntisymmetric R) (m : finite.FinMap R X) (kept : K → Bool) where
   pub entries-retain_keys : finite.entries (finite.retain_keys m kept) ≡ filter (λ e. kept e.0) (finite.entries m)

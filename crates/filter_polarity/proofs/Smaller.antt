@@ -5,19 +5,19 @@ use Rattle.std.specs.FinMap as finite
 use Rattle.std.specs.List.{All, list_any}
 use Rattle.std.specs.declared.cmp.Ordering.{Ordering}
 use Rattle.std.proofs.lemmas.Bool.{and_parts, and_from, false≢true, or_cases, or_left, or_right}
-use Rattle.graph_types.specs.Graph.{Graph}
-use Rattle.graph_types.specs.Orders.{pair_cmp_total}
-use Rattle.graph_types.specs.Piece.{IsOfMode, member_eq}
+use Rattle.graph_types.specs.meaning.Graph.{Graph}
+use Rattle.graph_types.specs.meaning.Orders.{pair_cmp_total}
+use Rattle.graph_types.specs.meaning.Piece.{IsOfMode, member_eq}
 use Rattle.graph_types.specs.declared.ids.Mode.{Mode}
 use Rattle.graph_types.specs.declared.member.Member.{Member}
 use Rattle.graph_types.specs.declared.member.Member.TheVariants as member
 use Rattle.graph_types.proofs.Graph.{pair_cmp-IsAntisymmetric}
-use Rattle.mining_model.specs.Connected.{IsIn}
-use Rattle.mining_model.specs.Picture.{picture, touches, is_among, is_drawn}
+use Rattle.mining_model.specs.meaning.Connected.{IsIn}
+use Rattle.mining_model.specs.meaning.Picture.{picture, touches, is_among, is_drawn}
 use Rattle.mining_model.proofs.Sides.{list_any_at, list_any_place}
-use Rattle.filter_polarity.specs.declared.condition.Cond.{Cond}
-use Rattle.filter_polarity.specs.Meaning.{holds}
-use Rattle.filter_polarity.specs.Polarity.{falling}
+use Rattle.conditions.specs.declared.condition.Cond.{Cond}
+use Rattle.conditions.specs.meaning.Conditions.{holds}
+use Rattle.filter_polarity.specs.meaning.Polarity.{falling}
 use Rattle.filter_polarity.proofs.Passing.{falling_passes}
 
 -- to retain some keys of those that were retained

@@ -1,7 +1,7 @@
 ghost use Rattle.std.specs.Prelude.{◌≡◌, IsTrue};
-ghost use Rattle.filter_polarity.specs.Polarity.{falling};
+ghost use Rattle.filter_polarity.specs.meaning.Polarity.{falling};
 
-use crate::condition::Cond;
+use conditions::Cond;
 use graph_types::Mode;
 use std::marker::Model;
 
@@ -15,9 +15,9 @@ pub struct Falling {
 impl Model for Falling {
     ghost use Rattle.std.specs.Prelude.{IsTrue};
     ghost use Rattle.std.specs.Coded.{codes};
-    ghost use Rattle.filter_polarity.specs.contracts.condition.Cond as conditions;
-    ghost use Rattle.filter_polarity.specs.Polarity.{falling};
-    ghost use Rattle.filter_polarity.specs.Program.{FallingValue};
+    ghost use Rattle.conditions.specs.contracts.condition.Cond as conditions;
+    ghost use Rattle.filter_polarity.specs.meaning.Polarity.{falling};
+    ghost use Rattle.filter_polarity.specs.meaning.Program.{FallingValue};
 
     ghost Value = { FallingValue };
 

@@ -2,18 +2,18 @@
 
 ghost use Rattle.std.specs.Prelude.{◌≡◌, ◌+◌, ◌-◌, ◌*◌, ◌/◌, List, length, IsTrue};
 ghost use Rattle.std.specs.List.{All};
-ghost use Rattle.graph_types.specs.Graph.{Graph, empty_graph};
-ghost use Rattle.graph_types.specs.Piece.{IsOfMode};
+ghost use Rattle.graph_types.specs.meaning.Graph.{Graph, empty_graph};
+ghost use Rattle.graph_types.specs.meaning.Piece.{IsOfMode};
 ghost use Rattle.graph_types.specs.declared.ids.Mode.{Mode};
 ghost use Rattle.graph_types.specs.declared.member.Member.{Member};
-ghost use Rattle.mining_model.specs.Connected.{IsIn, vertices_of};
-ghost use Rattle.mining_model.specs.Picture.{picture};
-ghost use Rattle.filter_polarity.specs.declared.condition.Cond.{Cond};
-ghost use Rattle.filter_polarity.specs.declared.condition.Term.{Term};
-ghost use Rattle.filter_polarity.specs.declared.condition.Term.TheVariants.{Missing};
-ghost use Rattle.filter_polarity.specs.Counts.{IsSimple, count, edges_of};
-ghost use Rattle.filter_polarity.specs.Meaning.{holds};
-ghost use Rattle.filter_polarity.specs.Polarity.{falling, rising};
+ghost use Rattle.mining_model.specs.meaning.Connected.{IsIn, vertices_of};
+ghost use Rattle.mining_model.specs.meaning.Picture.{picture};
+ghost use Rattle.conditions.specs.declared.condition.Cond.{Cond};
+ghost use Rattle.conditions.specs.declared.condition.Term.{Term};
+ghost use Rattle.conditions.specs.declared.condition.Term.TheVariants.{Missing};
+ghost use Rattle.conditions.specs.meaning.Counts.{IsSimple, count, edges_of};
+ghost use Rattle.conditions.specs.meaning.Conditions.{holds};
+ghost use Rattle.filter_polarity.specs.meaning.Polarity.{falling, rising};
 
 /// A falling condition that holds of a picture holds of each part of it, connected or not, also of the
 /// empty one.
@@ -43,17 +43,4 @@ pub fn falling_passes_to_fewer_members()
         IsTrue (falling kind c) → All (IsOfMode kind) some →
         ((m : Member) → IsIn m some → IsIn m members) →
         IsTrue (holds c (picture g members)) → IsTrue (holds c (picture g some)) }
-{}
-
-/// Where each edge has its ends, the lower one first, the pairs without an edge are those that the edges
-/// leave of all pairs.
-pub fn missing_is_what_edges_leave()
-    ensures { (g : Graph) → IsSimple g →
-        (let n = length (vertices_of g) in
-        count Missing g + length (edges_of g) ≡ n * (n - 1) / 2) }
-{}
-
-/// In a graph that has nothing each term counts 0.
-pub fn terms_of_nothing()
-    ensures { (term : Term) → count term empty_graph ≡ 0 }
 {}

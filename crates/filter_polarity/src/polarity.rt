@@ -1,8 +1,8 @@
 ghost use Rattle.std.specs.Prelude.{◌≡◌, IsTrue, IfErr};
 ghost use Rattle.std.specs.Result.{OkIff};
-ghost use Rattle.filter_polarity.specs.Polarity.{bounds_above, bounds_below, falling, is_rising_sum, is_rising_term, rising};
+ghost use Rattle.filter_polarity.specs.meaning.Polarity.{bounds_above, bounds_below, falling, is_rising_sum, is_rising_term, rising};
 
-use crate::condition::{Cond, Factor, Op, Term};
+use conditions::{Cond, Factor, Op, Term};
 use crate::falling_cond::{Falling, NotFalling};
 use graph_types::Mode;
 

@@ -1,9 +1,9 @@
 ghost use Rattle.std.specs.Prelude.{◌≡◌, ◌≤◌};
-ghost use Rattle.graph_types.specs.Piece.{most_members};
-ghost use Rattle.filter_polarity.specs.Program.{IsProgram};
-ghost use Rattle.filter_polarity.specs.Written.{IsWithinLimits};
+ghost use Rattle.graph_types.specs.meaning.Piece.{most_members};
+ghost use Rattle.filter_polarity.specs.meaning.Program.{IsProgram};
+ghost use Rattle.conditions.specs.meaning.Written.{IsWithinLimits};
 
-use crate::condition::Cond;
+use conditions::Cond;
 use crate::falling_cond::Falling;
 use graph_types::Mode;
 use std::marker::Model;
@@ -19,8 +19,8 @@ pub struct Program {
 
 impl Model for Program {
     ghost use Rattle.std.specs.Coded.{codes};
-    ghost use Rattle.filter_polarity.specs.contracts.condition.Cond as conditions;
-    ghost use Rattle.filter_polarity.specs.Program.{ProgramValue, IsProgram};
+    ghost use Rattle.conditions.specs.contracts.condition.Cond as conditions;
+    ghost use Rattle.filter_polarity.specs.meaning.Program.{ProgramValue, IsProgram};
 
     ghost Value = { ProgramValue };
 

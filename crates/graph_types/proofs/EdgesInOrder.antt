@@ -11,9 +11,9 @@ use Rattle.std.specs.FinMap as map
 use Rattle.std.proofs.lemmas.List.{map-append}
 use Rattle.std.proofs.lemmas.List.Elements.{filter-append}
 use Rattle.graph_types.specs.declared.adjacency.Vertex.{Vertex}
-use Rattle.graph_types.specs.Graph.{pair_cmp}
-use Rattle.graph_types.specs.Adjacency.{Rows, edges_from, graph_of_rows, goes_up}
-use Rattle.graph_types.specs.Orders.{pair_cmp_total}
+use Rattle.graph_types.specs.meaning.Graph.{pair_cmp}
+use Rattle.graph_types.specs.storage.Adjacency.{Rows, edges_from, graph_of_rows, goes_up}
+use Rattle.graph_types.specs.meaning.Orders.{pair_cmp_total}
 use Rattle.graph_types.proofs.Views.{keys-seen}
 use Rattle.graph_types.proofs.Rows.{keys_rise}
 

@@ -19,7 +19,7 @@ use Rattle.std.proofs.lemmas.Map.{lookup-remove_entry}
 use Rattle.std.proofs.lemmas.Map.Keys.{sorted_head, sorted_tail, IsDistinct-from_sorted}
 use Rattle.std.proofs.lemmas.Map.Made.{update_all_none}
 use Rattle.std.proofs.Math.Seq.{take-append_seam}
-use Rattle.graph_types.specs.Few.{Pairs, IsAscending, StandsIn, place_of}
+use Rattle.graph_types.specs.storage.Few.{Pairs, IsAscending, StandsIn, place_of}
 use Rattle.graph_types.proofs.Rows.{find-below, keys_rise, nat-test}
 use Rattle.graph_types.proofs.Views.{entries-seen, get-seen, remove-seen}
 

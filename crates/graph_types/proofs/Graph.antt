@@ -8,8 +8,8 @@ use Rattle.std.specs.declared.cmp.Ordering.TheVariants.{Less, Equal, Greater}
 use Rattle.std.specs.FinMap as map
 use Rattle.std.proofs.lemmas.Bool.{false≢true, not-true, or_parts}
 use Rattle.std.proofs.lemmas.Bool.Decides.{nat_tests}
-use Rattle.graph_types.specs.Graph.{Graph, has_vertex, has_edge, edge_between, is_joined, EdgesHaveEnds, HasEnds, empty_graph, with_vertex, with_edge, without_vertex, without_edge, ends_at, pair_cmp}
-use Rattle.graph_types.specs.Orders.{pair_cmp_total}
+use Rattle.graph_types.specs.meaning.Graph.{Graph, has_vertex, has_edge, edge_between, is_joined, EdgesHaveEnds, HasEnds, empty_graph, with_vertex, with_edge, without_vertex, without_edge, ends_at, pair_cmp}
+use Rattle.graph_types.specs.meaning.Orders.{pair_cmp_total}
 
 pub pair_cmp-IsAntisymmetric : map.IsAntisymmetric pair_cmp
 pair_cmp-IsAntisymmetric e f tied =

@@ -10,7 +10,7 @@ use Rattle.std.proofs.lemmas.Bool.{false≢true}
 use Rattle.std.proofs.lemmas.List.Kept.{IsStrictlySortedBy-filter}
 use Rattle.std.proofs.lemmas.Map.Lookups.{btree_set_from_contains}
 use Rattle.std.proofs.lemmas.Map.Made.{is_member-filter}
-use Rattle.graph_types.specs.Adjacency.{Lists}
+use Rattle.graph_types.specs.storage.Adjacency.{Lists}
 use Rattle.graph_types.proofs.Rows.{keys_rise}
 
 tied : (r : Ordering) → is_eq r ≡ true → r ≡ Equal

@@ -12,10 +12,10 @@ use Rattle.graph_types.specs.declared.ids.Mode.{Mode}
 use Rattle.graph_types.specs.declared.ids.Mode.TheVariants as mode
 use Rattle.graph_types.specs.declared.member.Member.{Member}
 use Rattle.graph_types.specs.declared.member.Member.TheVariants as member
-use Rattle.graph_types.specs.Graph.{pair_cmp}
-use Rattle.graph_types.specs.Piece.{PieceValue, IsPiece, IsOfMode, mode_of, mode_cmp, piece_cmp, member_cmp, member_lt, member_eq, is_ascending, with_member}
-use Rattle.graph_types.specs.Slots.{slot_of, place_from}
-use Rattle.graph_types.specs.Orders.{then_tie, member_cmp_total, piece_cmp_total}
+use Rattle.graph_types.specs.meaning.Graph.{pair_cmp}
+use Rattle.graph_types.specs.meaning.Piece.{PieceValue, IsPiece, IsOfMode, mode_of, mode_cmp, piece_cmp, member_cmp, member_lt, member_eq, is_ascending, with_member}
+use Rattle.graph_types.specs.storage.Slots.{slot_of, place_from}
+use Rattle.graph_types.specs.meaning.Orders.{then_tie, member_cmp_total, piece_cmp_total}
 use Rattle.graph_types.proofs.Graph.{pair_cmp-IsAntisymmetric}
 
 member_cmp-slots : (x y : Member) → mode_of x ≡ mode_of y → member_cmp x y ≡ pair_cmp (slot_of x) (slot_of y)

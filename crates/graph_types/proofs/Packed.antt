@@ -9,8 +9,8 @@ use Rattle.graph_types.specs.declared.ids.Mode.{Mode}
 use Rattle.graph_types.specs.declared.ids.Mode.TheVariants as mode
 use Rattle.graph_types.specs.declared.member.Member.{Member}
 use Rattle.graph_types.specs.declared.member.Member.TheVariants as member
-use Rattle.graph_types.specs.Piece.{PieceValue, IsPiece, CanJoin, HasLowerFirst, IsOfMode, mode_of, member_eq, most_members, joined, with_member}
-use Rattle.graph_types.specs.Slots.{slot_of, slots_of, member_in, piece_in, place_from, IsPacked}
+use Rattle.graph_types.specs.meaning.Piece.{PieceValue, IsPiece, CanJoin, HasLowerFirst, IsOfMode, mode_of, member_eq, most_members, joined, with_member}
+use Rattle.graph_types.specs.storage.Slots.{slot_of, slots_of, member_in, piece_in, place_from, IsPacked}
 use Rattle.graph_types.proofs.Lists.{All-insert, map-insert}
 use Rattle.graph_types.proofs.Members.{Found, JoinsAt, place_from-found, is_ascending-with_member}
 

@@ -6,9 +6,9 @@ use Rattle.std.specs.Cmp.{nat_cmp_total}
 use Rattle.std.specs.FinMap as map
 use Rattle.std.proofs.lemmas.Bool.{eqb-true}
 use Rattle.graph_types.specs.declared.adjacency.Vertex.{Vertex}
-use Rattle.graph_types.specs.Graph.{Graph, pair_cmp, with_vertex, with_edge, without_edge}
-use Rattle.graph_types.specs.Adjacency.{Rows, graph_of_rows, without_row, without_edges_to}
-use Rattle.graph_types.specs.Orders.{pair_cmp_total}
+use Rattle.graph_types.specs.meaning.Graph.{Graph, pair_cmp, with_vertex, with_edge, without_edge}
+use Rattle.graph_types.specs.storage.Adjacency.{Rows, graph_of_rows, without_row, without_edges_to}
+use Rattle.graph_types.specs.meaning.Orders.{pair_cmp_total}
 use Rattle.graph_types.proofs.Graph.{pair_cmp-IsAntisymmetric}
 use Rattle.graph_types.proofs.Rows.{nat-test, pair-test, get-labels, get-edges}
 

@@ -16,9 +16,9 @@ use Rattle.std.proofs.lemmas.Map.Keys.{sorted_head, sorted_tail}
 use Rattle.std.proofs.lemmas.Map.Made.{keys_of-map_values}
 use lib.Dec.{T}
 use Rattle.graph_types.specs.declared.adjacency.Vertex.{Vertex}
-use Rattle.graph_types.specs.Graph.{pair_cmp, empty_graph}
-use Rattle.graph_types.specs.Adjacency.{Rows, edges_from, graph_of_rows}
-use Rattle.graph_types.specs.Orders.{pair_cmp_total}
+use Rattle.graph_types.specs.meaning.Graph.{pair_cmp, empty_graph}
+use Rattle.graph_types.specs.storage.Adjacency.{Rows, edges_from, graph_of_rows}
+use Rattle.graph_types.specs.meaning.Orders.{pair_cmp_total}
 use Rattle.graph_types.proofs.Views.{entries-seen, keys-seen}
 
 is_eq-then : (r s : Ordering) → is_eq (ordering_then r s) ≡ (is_eq r && is_eq s)

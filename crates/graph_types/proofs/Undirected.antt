@@ -7,10 +7,10 @@ use Rattle.std.specs.Cmp.{nat_cmp_total}
 use Rattle.std.specs.FinMap as map
 use Rattle.std.proofs.lemmas.Bool.{false≢true, eqb-true, ltb-true, lt-ltb, not-true, or_parts}
 use Rattle.std.proofs.lemmas.Bool.Decides.{nat_tests}
-use Rattle.graph_types.specs.Graph.{Graph, HasEnds, empty_graph, edge_between, has_vertex, has_edge, is_joined, ends_at, neighbours, pair_cmp, with_vertex, with_edge, without_vertex, without_edge}
-use Rattle.graph_types.specs.Adjacency.{IsUndirected, Lists, goes_up, undirected, without_row, without_edges_to}
-use Rattle.graph_types.specs.Simple.{IsSimple}
-use Rattle.graph_types.specs.Orders.{pair_cmp_total}
+use Rattle.graph_types.specs.meaning.Graph.{Graph, HasEnds, empty_graph, edge_between, has_vertex, has_edge, is_joined, ends_at, neighbours, pair_cmp, with_vertex, with_edge, without_vertex, without_edge}
+use Rattle.graph_types.specs.storage.Adjacency.{IsUndirected, Lists, goes_up, undirected, without_row, without_edges_to}
+use Rattle.graph_types.specs.meaning.Simple.{IsSimple}
+use Rattle.graph_types.specs.meaning.Orders.{pair_cmp_total}
 use Rattle.graph_types.proofs.Graph.{has_vertex-kept, has_vertex-without_vertex, joined-at, pair_cmp-IsAntisymmetric}
 use Rattle.graph_types.proofs.Listing.{Lists-keys, Lists-alike, Lists-filter, same_list}
 use Rattle.graph_types.proofs.Views.{none_from}

@@ -1,8 +1,8 @@
 ghost use Rattle.std.specs.Prelude.{◌≡◌, ℕ, false, IsTrue, OnOk, OnErr, IfOk, filter};
 ghost use Rattle.std.specs.FinMap as map;
 ghost use Rattle.std.specs.Ordering.{nat_cmp};
-ghost use Rattle.graph_types.specs.Graph.{empty_graph, has_vertex, has_edge, with_vertex, with_edge, without_edge};
-ghost use Rattle.graph_types.specs.Adjacency.{Lists, without_row, without_edges_to, goes_up};
+ghost use Rattle.graph_types.specs.meaning.Graph.{empty_graph, has_vertex, has_edge, with_vertex, with_edge, without_edge};
+ghost use Rattle.graph_types.specs.storage.Adjacency.{Lists, without_row, without_edges_to, goes_up};
 
 use crate::neighbours::Neighbours;
 use crate::{EdgeList, LabelId, NoMemory, VertexId, VertexList};
@@ -26,8 +26,8 @@ pub(crate) struct Adjacency {
 
 impl Model for Adjacency {
     ghost use Rattle.std.specs.FinMap as map;
-    ghost use Rattle.graph_types.specs.Graph.{Graph, graph_code};
-    ghost use Rattle.graph_types.specs.Adjacency.{graph_of_rows};
+    ghost use Rattle.graph_types.specs.meaning.Graph.{Graph, graph_code};
+    ghost use Rattle.graph_types.specs.storage.Adjacency.{graph_of_rows};
 
     ghost Value = { Graph };
 

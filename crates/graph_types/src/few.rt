@@ -5,7 +5,7 @@ ghost use Rattle.std.specs.BTreeMap.{is_at};
 ghost use Rattle.std.specs.FinMap.Entries.{find, put};
 ghost use Rattle.std.specs.Map.{keys_of, remove_entry};
 ghost use Rattle.std.specs.Ordering.{nat_cmp};
-ghost use Rattle.graph_types.specs.Few.{IsAscending, IsSought};
+ghost use Rattle.graph_types.specs.storage.Few.{IsAscending, IsSought};
 
 use crate::{LabelId, NoMemory, VertexId, VertexList};
 use smallvec::SmallVec;

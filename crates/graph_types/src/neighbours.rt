@@ -2,7 +2,7 @@ ghost use Rattle.std.specs.Prelude.{◌≡◌, ◌<◌, ◌++◌, None, IsTrue, 
 ghost use Rattle.std.specs.BTreeMap.{IsFromIterResult, keys};
 ghost use Rattle.std.specs.FinMap as map;
 ghost use Rattle.std.specs.Ordering.{nat_cmp};
-ghost use Rattle.graph_types.specs.Adjacency.{goes_up};
+ghost use Rattle.graph_types.specs.storage.Adjacency.{goes_up};
 
 use crate::few::{self, Short};
 use crate::{Edge, EdgeList, LabelId, NoMemory, VertexId, VertexList};
@@ -32,8 +32,8 @@ impl Model for Neighbours {
     ghost use Rattle.std.specs.Coded.{coded_ℕ};
     ghost use Rattle.std.specs.Ordering.{nat_cmp};
     ghost use Rattle.std.specs.FinMap as map;
-    ghost use Rattle.graph_types.specs.Few.{IsAscending};
-    ghost use Rattle.graph_types.specs.Kept.{map_of, pairs_of};
+    ghost use Rattle.graph_types.specs.storage.Few.{IsAscending};
+    ghost use Rattle.graph_types.specs.storage.Kept.{map_of, pairs_of};
 
     ghost Value = { map.FinMap nat_cmp ℕ };
 

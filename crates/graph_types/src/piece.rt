@@ -3,9 +3,9 @@ ghost use Rattle.std.specs.List.{insert};
 ghost use Rattle.std.specs.Cmp.{eq_by_cmp_equiv, partial_equiv_from_equiv, partial_order_from_total};
 ghost use Rattle.std.specs.Ordering.{as_partial_cmp, eq_by_cmp};
 ghost use Rattle.std.proofs.Common.{refl};
-ghost use Rattle.graph_types.specs.Orders.{piece_cmp_total};
-ghost use Rattle.graph_types.specs.Piece.{CanJoin, HasLowerFirst, IsPiece, joined, piece_cmp};
-ghost use Rattle.graph_types.specs.Slots.{member_in, place_from, slot_of};
+ghost use Rattle.graph_types.specs.meaning.Orders.{piece_cmp_total};
+ghost use Rattle.graph_types.specs.meaning.Piece.{CanJoin, HasLowerFirst, IsPiece, joined, piece_cmp};
+ghost use Rattle.graph_types.specs.storage.Slots.{member_in, place_from, slot_of};
 
 use crate::{Edge, Member, Mode, VertexId};
 use std::cmp::Ordering;
@@ -28,8 +28,8 @@ const _: () = prove!(size_of::<Piece>() <= 72);
 
 impl Model for Piece {
     ghost use Rattle.std.specs.Prelude.{length};
-    ghost use Rattle.graph_types.specs.Piece.{PieceValue};
-    ghost use Rattle.graph_types.specs.Slots.{IsPacked, piece_in, slots_of};
+    ghost use Rattle.graph_types.specs.meaning.Piece.{PieceValue};
+    ghost use Rattle.graph_types.specs.storage.Slots.{IsPacked, piece_in, slots_of};
 
     ghost Value = { PieceValue };
 

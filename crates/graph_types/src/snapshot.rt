@@ -1,7 +1,7 @@
 ghost use Rattle.std.specs.Prelude.{◌≡◌, IsSome, IfOk, OnOk, OnErr};
 ghost use Rattle.std.specs.FinMap as map;
-ghost use Rattle.graph_types.specs.Graph.{empty_graph, with_vertex, with_edge, without_vertex, without_edge, HasEnds, neighbours};
-ghost use Rattle.graph_types.specs.Simple.{IsSimple};
+ghost use Rattle.graph_types.specs.meaning.Graph.{empty_graph, with_vertex, with_edge, without_vertex, without_edge, HasEnds, neighbours};
+ghost use Rattle.graph_types.specs.meaning.Simple.{IsSimple};
 
 use crate::adjacency::Adjacency;
 use crate::{Edge, EdgeList, LabelId, NoMemory, VertexId, VertexList};
@@ -19,8 +19,8 @@ pub struct Snapshot {
 }
 
 impl Model for Snapshot {
-    ghost use Rattle.graph_types.specs.Adjacency.{IsUndirected, undirected};
-    ghost use Rattle.graph_types.specs.Graph.{Graph, graph_code};
+    ghost use Rattle.graph_types.specs.storage.Adjacency.{IsUndirected, undirected};
+    ghost use Rattle.graph_types.specs.meaning.Graph.{Graph, graph_code};
 
     ghost Value = { Graph };
 

@@ -4,9 +4,9 @@ use Rattle.std.specs.Io.KnownBytes.{IsAtEnd}
 use Rattle.std.proofs.lemmas.List.{append-nil, take_all, drop_all, get_or-take, get_or_default, get_or_at, take-append-le, length-take-le, length-append}
 use Rattle.std.proofs.lemmas.Bool.{eq-eqb, eqb-true, false≢true, cases_lt, cases_Bool}
 use Rattle.memchr.specs.Find.{Nowhere, Passes, is_byte, IsFirstByte}
-use Rattle.job_io.specs.Ends.{BothKnown}
-use Rattle.job_io.specs.Lines.{lf, most_line_bytes, HasNoLf, Reading, lines_of, line_text, GivesLine, GivesEnd, StopsInLine, LongLineFollows}
-use Rattle.job_io.specs.Reading.{Takes, IsShort, HasLineOf}
+use Rattle.job_io.specs.calls.Ends.{BothKnown}
+use Rattle.job_io.specs.meaning.Lines.{lf, most_line_bytes, HasNoLf, Reading, lines_of, line_text, GivesLine, GivesEnd, StopsInLine, LongLineFollows}
+use Rattle.job_io.specs.calls.Reading.{Takes, IsShort, HasLineOf}
 use Rattle.job_io.proofs.LinesOf.{lines_of-whole, lines_of-last, lines_of-unfinished, lf_or_none}
 
 -- a search that found no LF in the first n bytes

@@ -8,7 +8,7 @@ use Rattle.std.proofs.Math.Seq.{take-append-add}
 use Rattle.std.proofs.lemmas.List.{append-nil, take_min, take-append-drop, take-append-le}
 use Rattle.std.proofs.lemmas.Bool.{false≢true}
 use Rattle.std.specs.Io.KnownBytes.{Appends, Keeps, ReadConsumes, WriteAppends}
-use Rattle.job_io.specs.Ends.{AppendsFront, Puts, PassesOn, Gathers}
+use Rattle.job_io.specs.calls.Ends.{AppendsFront, Puts, PassesOn, Gathers}
 
 -- two appends are one
 pub Appends-then : (old mid new : Option (List ℕ)) (xs ys : List ℕ) → Appends old mid xs → Appends mid new ys → Appends old new (xs ++ ys)

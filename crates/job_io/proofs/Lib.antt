@@ -3,5 +3,3 @@ pub mod Copying
 pub mod LinesOf
 pub mod Ahead
 pub mod BlockOf
-pub mod WordsOf
-pub mod NumberOf

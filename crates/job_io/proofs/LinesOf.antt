@@ -4,7 +4,7 @@ use Rattle.std.specs.List.{slice_split, filter, flat_map}
 use Rattle.std.proofs.lemmas.List.Splits.{slice_split_none, slice_split_at, length-slice_split}
 use Rattle.std.proofs.lemmas.List.Elements.{All-nil, All-cons, All-head, All-tail}
 use Rattle.std.proofs.lemmas.Bool.{ne_eqb, cases_eq, true≢false}
-use Rattle.job_io.specs.Lines.{lf, cr, is_lf, Line, lines_of, lines_of_parts, whole_lines_of, line_text, without_cr, HasNoLf}
+use Rattle.job_io.specs.meaning.Lines.{lf, cr, is_lf, Line, lines_of, lines_of_parts, whole_lines_of, line_text, without_cr, HasNoLf}
 
 -- what a line without LF tells the test for one
 NoneIsLf-from : (text : List ℕ) → HasNoLf text → All (λ b. is_lf b ≡ false) text

@@ -1,6 +1,3 @@
-pub mod Ends
-pub mod Memory
-pub mod Lines
-pub mod LineBuffer
-pub mod Reading
-pub mod Fields
+pub mod meaning
+pub mod calls
+pub mod storage

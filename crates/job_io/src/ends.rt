@@ -1,7 +1,7 @@
 ghost use Rattle.std.specs.Prelude.{◌≡◌, ◌<◌, ℕ, List, length, Option, Ok};
 ghost use Rattle.std.specs.Io.{ReadsAtMost, WritesAtMost};
 ghost use Rattle.std.specs.Io.KnownBytes.{ReadConsumes, WriteAppends};
-ghost use Rattle.job_io.specs.Ends.{HasCause, Rose, Puts};
+ghost use Rattle.job_io.specs.calls.Ends.{HasCause, Rose, Puts};
 
 /// The system refused a read or a write. Nothing was read or written by the call.
 #[derive(Clone, Copy, Debug, PartialEq, Eq)]

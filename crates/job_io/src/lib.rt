@@ -1,9 +1,8 @@
-//! Where a job's bytes come from and where records go: sources and sinks, the lines of a source, the fields
-//! of a line, and lines that are being made.
+//! Where a job's bytes come from and where records go: sources and sinks, the lines of a source, and
+//! lines that are being made.
 #![tactic(auto)]
 
 mod ends;
-mod fields;
 mod line_buffer;
 mod line_reader;
 mod lines;
@@ -13,7 +12,7 @@ mod short_line;
 mod standard;
 
 pub use ends::{Failed, Sink, Source, WriteFault, put_all};
-pub use fields::{
+pub use line_fields::{
     is_label, is_label_byte, is_label_start, is_nothing, read_id, read_number, rest, trim_start,
     word, words,
 };

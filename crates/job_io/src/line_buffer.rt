@@ -1,9 +1,9 @@
 // The block of bytes that a reader of lines works in: the line that it gave last, and what it took from the
 // source and has not given.
 ghost use Rattle.std.specs.Prelude.{◌≡◌, ◌+◌, ◌≤◌, ℕ, List, [], ◌++◌, take, drop, length, IfOk, MatchResult};
-ghost use Rattle.job_io.specs.Ends.{HasCause};
-ghost use Rattle.job_io.specs.LineBuffer.{TakesBlock};
-ghost use Rattle.job_io.specs.Lines.{most_line_bytes};
+ghost use Rattle.job_io.specs.calls.Ends.{HasCause};
+ghost use Rattle.job_io.specs.storage.LineBuffer.{TakesBlock};
+ghost use Rattle.job_io.specs.meaning.Lines.{most_line_bytes};
 
 use crate::ends::{Failed, Source};
 use graph_types::NoMemory;
@@ -24,7 +24,7 @@ pub struct LineBuffer {
 
 impl Model for LineBuffer {
     ghost use Rattle.std.specs.Prelude.{slice_range};
-    ghost use Rattle.job_io.specs.LineBuffer.{Buffered, FillsBlock};
+    ghost use Rattle.job_io.specs.storage.LineBuffer.{Buffered, FillsBlock};
 
     ghost Value = { Buffered };
 

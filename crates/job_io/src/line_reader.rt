@@ -1,9 +1,9 @@
 ghost use Rattle.std.specs.Prelude.{◌≡◌, ◌≢◌, ◌↔◌, Contains, ◌≤◌, ◌<◌, ◌+◌, ◌^◌, ℕ, Bool, true, false, List, [], IsTrue, IfOk, OnErr, OnOk, MatchOption, length, if◌then◌else◌};
 ghost use Rattle.std.specs.Bool.{OnTrue};
 ghost use Rattle.std.specs.Result.{result_unwrap_or};
-ghost use Rattle.job_io.specs.Ends.{HasCause, Rose};
-ghost use Rattle.job_io.specs.Lines.{lf, FitsLine, after_line};
-ghost use Rattle.job_io.specs.Reading.{Takes, IsShort, IsAhead, ShowsAhead, TellsAny, Nexts};
+ghost use Rattle.job_io.specs.calls.Ends.{HasCause, Rose};
+ghost use Rattle.job_io.specs.meaning.Lines.{lf, FitsLine, after_line};
+ghost use Rattle.job_io.specs.calls.Reading.{Takes, IsShort, IsAhead, ShowsAhead, TellsAny, Nexts};
 
 use crate::ends::{Failed, Source};
 use crate::line_buffer::LineBuffer;
@@ -51,7 +51,7 @@ pub struct LineReader {
 
 impl Model for LineReader {
     ghost use Rattle.std.specs.Prelude.{◌≤◌, ◌^◌};
-    ghost use Rattle.job_io.specs.Lines.{Reading};
+    ghost use Rattle.job_io.specs.meaning.Lines.{Reading};
 
     ghost Value = { Reading };
 

@@ -1,5 +1,5 @@
 ghost use Rattle.std.specs.Prelude.{◌≡◌, ℕ, Bool, List, length};
-ghost use Rattle.job_io.specs.Lines.{without_cr as without_cr_of};
+ghost use Rattle.job_io.specs.meaning.Lines.{without_cr as without_cr_of};
 
 use crate::memory::ByteList;
 use graph_types::List;

@@ -1,8 +1,8 @@
 ghost use Rattle.std.specs.Prelude.{◌≡◌, ◌<◌, ◌≤◌, [], min, length, take, Some, IfOk, Ok, if◌then◌else◌};
 ghost use Rattle.std.specs.Io.{ReadsAtMost, WritesAtMost};
 ghost use Rattle.std.specs.Io.KnownBytes.{ReadConsumes, WriteAppends};
-ghost use Rattle.job_io.specs.Ends.{HasCause, Rose};
-ghost use Rattle.job_io.specs.Memory.{raised, is_failing, read_answer, after_read, write_answer, after_write};
+ghost use Rattle.job_io.specs.calls.Ends.{HasCause, Rose};
+ghost use Rattle.job_io.specs.calls.Memory.{raised, is_failing, read_answer, after_read, write_answer, after_write};
 
 use crate::{Failed, Sink, Source};
 use graph_types::{List, NoMemory};
@@ -27,7 +27,7 @@ pub struct MemorySource {
 
 impl Model for MemorySource {
     ghost use Rattle.std.specs.Prelude.{◌≤◌, length, drop};
-    ghost use Rattle.job_io.specs.Memory.{MemoryReading};
+    ghost use Rattle.job_io.specs.calls.Memory.{MemoryReading};
 
     ghost Value = { MemoryReading };
 
@@ -102,7 +102,7 @@ pub struct MemorySink {
 
 impl Model for MemorySink {
     ghost use Rattle.std.specs.Prelude.{◌≤◌, vec_len, vec_capacity};
-    ghost use Rattle.job_io.specs.Memory.{MemoryWriting};
+    ghost use Rattle.job_io.specs.calls.Memory.{MemoryWriting};
 
     ghost Value = { MemoryWriting };
 

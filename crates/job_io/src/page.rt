@@ -1,5 +1,5 @@
 ghost use Rattle.std.specs.Prelude.{◌≡◌, ◌+◌, ◌≤◌, [], ◌++◌, length, OnErr, IsOk};
-ghost use Rattle.job_io.specs.Ends.{Gathers, HasCause, Puts};
+ghost use Rattle.job_io.specs.calls.Ends.{Gathers, HasCause, Puts};
 
 use crate::{Sink, WriteFault, put_all};
 use std::marker::Model;

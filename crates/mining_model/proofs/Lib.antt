@@ -1,4 +1,3 @@
 pub mod Sides
 pub mod VertexPictures
-pub mod Texts
 pub mod Ascending

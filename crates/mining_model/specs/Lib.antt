@@ -1,6 +1,1 @@
-pub mod Step
-pub mod Picture
-pub mod Connected
-pub mod Embeddings
-pub mod Changes
-pub mod Text
+pub mod meaning

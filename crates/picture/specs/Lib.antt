@@ -1,3 +1,2 @@
-pub mod Links
-pub mod Picture
-pub mod Slots
+pub mod meaning
+pub mod storage

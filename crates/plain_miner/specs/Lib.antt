@@ -1,4 +1,2 @@
-pub mod Members
-pub mod Pieces
-pub mod Drawn
-pub mod Grown
+pub mod meaning
+pub mod calls

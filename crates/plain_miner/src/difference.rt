@@ -1,8 +1,8 @@
 ghost use Rattle.std.specs.Prelude.{◌≡◌, IfOk};
 ghost use Rattle.std.specs.List.{list_any};
-ghost use Rattle.graph_types.specs.Piece.{members_of_all};
-ghost use Rattle.mining_model.specs.Changes.{same_members, without};
-ghost use Rattle.plain_miner.specs.Pieces.{pieces_without};
+ghost use Rattle.graph_types.specs.meaning.Piece.{members_of_all};
+ghost use Rattle.mining_model.specs.meaning.Changes.{same_members, without};
+ghost use Rattle.plain_miner.specs.meaning.Pieces.{pieces_without};
 
 use graph_types::{NoMemory, Piece, PieceList};
 use std::alloc::Global;

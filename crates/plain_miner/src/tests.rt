@@ -1,5 +1,6 @@
 use crate::{embeddings, without};
-use filter_polarity::{Cond, Factor, FactorList, Op, Program, Term, falling};
+use filter_polarity::{Program, falling};
+use conditions::{Cond, Factor, FactorList, Op, Term};
 use graph_types::{Edge, LabelId, Member, Mode, Piece, PieceList, Snapshot, VertexId};
 use std::alloc::{AllocError, Global};
 use std::process::Abort;

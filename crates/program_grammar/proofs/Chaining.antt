@@ -1,17 +1,17 @@
 -- Productions step by step, as the reader takes them.
 use Rattle.std.proofs.Common.{◌≡◌, ℕ, zero, suc, ◌+◌, ◌-◌, ◌<◌, ◌≤◌, ◌⊎◌, inl, inr, List, [], ◌∷◌, ◌++◌, length, Option, None, Some, Result, Ok, Err, codes, refl, sym, ap, subst, ◌∙◌, arith}
-use Rattle.update_reader.specs.Names.{Names}
-use Rattle.filter_polarity.specs.declared.condition.Cond.{Cond}
-use Rattle.filter_polarity.specs.declared.condition.Cond.TheOpen as form
-use Rattle.filter_polarity.specs.declared.condition.Cond.TheViews.{roll-Cond}
-use Rattle.filter_polarity.specs.declared.condition.Factor.{Factor}
+use Rattle.line_fields.specs.meaning.Names.{Names}
+use Rattle.conditions.specs.declared.condition.Cond.{Cond}
+use Rattle.conditions.specs.declared.condition.Cond.TheOpen as form
+use Rattle.conditions.specs.declared.condition.Cond.TheViews.{roll-Cond}
+use Rattle.conditions.specs.declared.condition.Factor.{Factor}
 use Rattle.program_grammar.specs.declared.fault.ReadError.{ReadError}
 use Rattle.program_grammar.specs.declared.fault.ReadError.TheVariants as error
 use Rattle.program_grammar.specs.declared.fault.Refusal.{Refusal}
 use Rattle.program_grammar.specs.declared.fault.Refusal.TheVariants.{BadLine, TooDeep}
-use Rattle.program_grammar.specs.Token.{Token, word, opening, closing, plus}
-use Rattle.program_grammar.specs.Grammar.{Production, Read, Inside, ◌>>=◌, behind, either, found, passed, use_of, more_uses, chain, comparison, atom, neg, and_chain, conj, or_chain, cond_within, inside}
-use Rattle.program_grammar.specs.Reading.{Left, Passes, Misses, Reads, ReadsUse}
+use Rattle.program_grammar.specs.meaning.Token.{Token, word, opening, closing, plus}
+use Rattle.program_grammar.specs.meaning.Grammar.{Production, Read, Inside, ◌>>=◌, behind, either, found, passed, use_of, more_uses, chain, comparison, atom, neg, and_chain, conj, or_chain, cond_within, inside}
+use Rattle.program_grammar.specs.calls.Reading.{Left, Passes, Misses, Reads, ReadsUse}
 
 -- what a call answered that passes an error on
 pub Reads-err : {A B : Type 0} → (r : Result B ReadError) (e : ReadError) (old new : Left) (a : Read A) (b : Read B)

@@ -4,22 +4,22 @@ use Rattle.std.specs.Str.{bytes_eq}
 use Rattle.std.proofs.lemmas.Bool.{and_parts, and_from, lt-ltb, ltb-true}
 use Rattle.std.proofs.lemmas.List.Folds.{list_all-append}
 use Rattle.std.proofs.lemmas.List.Quantifiers.{position-Some}
-use Rattle.job_io.specs.Fields.{is_label_word}
-use Rattle.update_reader.specs.Names.{Names, number_in}
-use Rattle.filter_polarity.specs.declared.condition.Cond.{Cond}
-use Rattle.filter_polarity.specs.declared.condition.Cond.TheOpen as form
-use Rattle.filter_polarity.specs.declared.condition.Factor.{Factor}
-use Rattle.filter_polarity.specs.declared.condition.Term.{Term}
-use Rattle.filter_polarity.specs.declared.condition.Term.TheVariants as term
-use Rattle.filter_polarity.specs.Written.{most_factors, most_depth, most_tokens}
-use Rattle.filter_polarity.proofs.Forms.{of_form, by_form}
+use Rattle.line_fields.specs.meaning.Fields.{is_label_word}
+use Rattle.line_fields.specs.meaning.Names.{Names, number_in}
+use Rattle.conditions.specs.declared.condition.Cond.{Cond}
+use Rattle.conditions.specs.declared.condition.Cond.TheOpen as form
+use Rattle.conditions.specs.declared.condition.Factor.{Factor}
+use Rattle.conditions.specs.declared.condition.Term.{Term}
+use Rattle.conditions.specs.declared.condition.Term.TheVariants as term
+use Rattle.conditions.specs.meaning.Written.{most_factors, most_depth, most_tokens}
+use Rattle.conditions.proofs.Forms.{of_form, by_form}
 use Rattle.program_grammar.specs.declared.fault.Refusal.TheVariants.{BadLine, TooDeep, TooLong}
 use Rattle.program_grammar.specs.declared.term_name.TermName.{TermName}
 use Rattle.program_grammar.specs.declared.term_name.TermName.TheVariants as name
-use Rattle.program_grammar.specs.Token.{Token, bytes_in, word, opening, closing, comma, plus}
-use Rattle.program_grammar.specs.Lexing.{tokens_of}
-use Rattle.program_grammar.specs.Grammar.{Production, Read, Inside, ◌>>=◌, behind, either, found, passed, first_of, label, numbered, numbered_by, bound, operator, named_term, label_behind, optional_label, two_labels, term_behind, term_of, factor, use_of, more_uses, sum_of, comparison, grouped, atom, neg, chain, and_chain, conj, or_chain, cond_within, inside, alone, condition, condition_of_tokens, condition_of}
-use Rattle.program_grammar.specs.Text.{knows, knows_term}
+use Rattle.program_grammar.specs.meaning.Token.{Token, bytes_in, word, opening, closing, comma, plus}
+use Rattle.program_grammar.specs.meaning.Lexing.{tokens_of}
+use Rattle.program_grammar.specs.meaning.Grammar.{Production, Read, Inside, ◌>>=◌, behind, either, found, passed, first_of, label, numbered, numbered_by, bound, operator, named_term, label_behind, optional_label, two_labels, term_behind, term_of, factor, use_of, more_uses, sum_of, comparison, grouped, atom, neg, chain, and_chain, conj, or_chain, cond_within, inside, alone, condition, condition_of_tokens, condition_of}
+use Rattle.program_grammar.specs.meaning.Text.{knows, knows_term}
 use Rattle.program_grammar.proofs.Limits.{ok_same, bind_ok, either_ok, chosen_ok}
 use Rattle.program_grammar.proofs.WrittenTokens.{all_known, knows-form}
 

@@ -1,21 +1,21 @@
 -- Each label of a program that was read has a name among the names then.
 use Rattle.std.proofs.Common.{◌≡◌, ℕ, ◌+◌, Bool, true, false, IsTrue, List, [], ◌∷◌, Result, Ok, Err, codes, refl, subst, if◌then◌else◌}
 use Rattle.graph_types.specs.declared.ids.Mode.{Mode}
-use Rattle.job_io.specs.Fields.{is_nothing_line, rest_of, words_of}
-use Rattle.update_reader.specs.Names.{Names}
-use Rattle.filter_polarity.specs.declared.condition.Cond.{Cond}
-use Rattle.filter_polarity.specs.Polarity.{falling}
-use Rattle.filter_polarity.specs.Program.{FallingValue, ProgramValue}
+use Rattle.line_fields.specs.meaning.Fields.{is_nothing_line, rest_of, words_of}
+use Rattle.line_fields.specs.meaning.Names.{Names}
+use Rattle.conditions.specs.declared.condition.Cond.{Cond}
+use Rattle.filter_polarity.specs.meaning.Polarity.{falling}
+use Rattle.filter_polarity.specs.meaning.Program.{FallingValue, ProgramValue}
 use Rattle.program_grammar.specs.declared.fault.Refusal.{Refusal}
 use Rattle.program_grammar.specs.declared.fault.Refusal.TheVariants.{BadLine, NotFalling}
 use Rattle.program_grammar.specs.declared.header.HeaderReader.{HeaderReader}
 use Rattle.program_grammar.specs.declared.header.HeaderReader.TheVariants as header
 use Rattle.program_grammar.specs.declared.header.HeaderStep.{HeaderStep}
 use Rattle.program_grammar.specs.declared.header.HeaderStep.TheVariants.{More, Ready}
-use Rattle.program_grammar.specs.Grammar.{condition_of}
-use Rattle.program_grammar.specs.Header.{condition_behind, filter_of, header_said, if_falling, is_first, is_word, mode_of, said_by, size_of}
-use Rattle.program_grammar.specs.Programs.{Judged, judged_by, lines_said, program_said}
-use Rattle.program_grammar.specs.Text.{knows}
+use Rattle.program_grammar.specs.meaning.Grammar.{condition_of}
+use Rattle.program_grammar.specs.meaning.Header.{condition_behind, filter_of, header_said, if_falling, is_first, is_word, mode_of, said_by, size_of}
+use Rattle.program_grammar.specs.meaning.Programs.{Judged, judged_by, lines_said, program_said}
+use Rattle.program_grammar.specs.meaning.Text.{knows}
 use Rattle.program_grammar.proofs.Limits.{ok_same, bind_ok, chosen_ok}
 use Rattle.program_grammar.proofs.Known.{KnownThen, condition_of-known, still_known}
 

@@ -4,24 +4,24 @@ use Rattle.std.specs.List.{list_all, sum_by}
 use Rattle.std.proofs.lemmas.Bool.{and_from, le-leb, lt-ltb, le-ltb, ltb-false, cases_lt}
 use Rattle.std.proofs.lemmas.List.Sums.{sum_by-cons, sum_by-append}
 use Rattle.std.proofs.lemmas.List.Folds.{list_all-append}
-use Rattle.job_io.specs.Fields.{is_label_word, number_of}
-use Rattle.update_reader.specs.Names.{Names}
-use Rattle.filter_polarity.specs.declared.condition.Cond.{Cond}
-use Rattle.filter_polarity.specs.declared.condition.Cond.TheOpen as form
-use Rattle.filter_polarity.specs.declared.condition.Cond.TheViews.{roll-Cond}
-use Rattle.filter_polarity.specs.declared.condition.Cond.TheFolds.{fold-roll-Cond, map-Cond}
-use Rattle.filter_polarity.specs.declared.condition.Factor.{Factor}
-use Rattle.filter_polarity.specs.declared.condition.Op.{Op}
-use Rattle.filter_polarity.specs.declared.condition.Term.{Term}
-use Rattle.filter_polarity.specs.declared.condition.Term.TheVariants as term
-use Rattle.filter_polarity.specs.Written.{Written, written, written_of, tokens_at, depth_at, pairs_round, term_tokens, factor_tokens, sum_tokens, are_numbers_within, are_numbers_within_of, IsWithinLimits, most_times, most_bound, most_factors, most_depth, most_tokens}
+use Rattle.line_fields.specs.meaning.Fields.{is_label_word, number_of}
+use Rattle.line_fields.specs.meaning.Names.{Names}
+use Rattle.conditions.specs.declared.condition.Cond.{Cond}
+use Rattle.conditions.specs.declared.condition.Cond.TheOpen as form
+use Rattle.conditions.specs.declared.condition.Cond.TheViews.{roll-Cond}
+use Rattle.conditions.specs.declared.condition.Cond.TheFolds.{fold-roll-Cond, map-Cond}
+use Rattle.conditions.specs.declared.condition.Factor.{Factor}
+use Rattle.conditions.specs.declared.condition.Op.{Op}
+use Rattle.conditions.specs.declared.condition.Term.{Term}
+use Rattle.conditions.specs.declared.condition.Term.TheVariants as term
+use Rattle.conditions.specs.meaning.Written.{Written, written, written_of, tokens_at, depth_at, pairs_round, term_tokens, factor_tokens, sum_tokens, are_numbers_within, are_numbers_within_of, IsWithinLimits, most_times, most_bound, most_factors, most_depth, most_tokens}
 use Rattle.program_grammar.specs.declared.fault.Refusal.{Refusal}
 use Rattle.program_grammar.specs.declared.fault.Refusal.TheVariants.{BadLine, TooLong, TooDeep}
 use Rattle.program_grammar.specs.declared.term_name.TermName.{TermName}
 use Rattle.program_grammar.specs.declared.term_name.TermName.TheVariants as name
-use Rattle.program_grammar.specs.Token.{Token, is_same, bytes_in, digits_in, op_in, word, opening, closing, comma, plus, times}
-use Rattle.program_grammar.specs.Lexing.{tokens_of}
-use Rattle.program_grammar.specs.Grammar.{Production, Read, Inside, ◌>>=◌, behind, either, found, passed, first_of, within, value_up_to, label, numbered, bound, operator, term_name, named_term, label_behind, optional_label, two_labels, term_behind, term_of, factor, factor_by, use_of, more_uses, sum_of, comparison, grouped, atom, neg, chain, and_chain, conj, or_chain, cond_within, inside, alone, condition, condition_of_tokens, condition_of}
+use Rattle.program_grammar.specs.meaning.Token.{Token, is_same, bytes_in, digits_in, op_in, word, opening, closing, comma, plus, times}
+use Rattle.program_grammar.specs.meaning.Lexing.{tokens_of}
+use Rattle.program_grammar.specs.meaning.Grammar.{Production, Read, Inside, ◌>>=◌, behind, either, found, passed, first_of, within, value_up_to, label, numbered, bound, operator, term_name, named_term, label_behind, optional_label, two_labels, term_behind, term_of, factor, factor_by, use_of, more_uses, sum_of, comparison, grouped, atom, neg, chain, and_chain, conj, or_chain, cond_within, inside, alone, condition, condition_of_tokens, condition_of}
 
 -- what was read, taken apart
 

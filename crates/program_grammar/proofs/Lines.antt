@@ -2,19 +2,19 @@
 use Rattle.std.proofs.Common.{◌≡◌, ℕ, ◌+◌, ◌≤◌, Bool, true, false, IsTrue, inl, inr, List, ◌++◌, length, map, Result, Ok, Err, codes, refl, sym, ap, subst, ◌∙◌, arith, length-append, if◌then◌else◌}
 use Rattle.std.proofs.lemmas.List.{length-map}
 use Rattle.graph_types.specs.declared.ids.Mode.{Mode}
-use Rattle.update_reader.specs.Names.{Names, most_names}
-use Rattle.filter_polarity.specs.declared.condition.Cond.{Cond}
-use Rattle.filter_polarity.specs.Polarity.{falling}
-use Rattle.filter_polarity.specs.Program.{FallingValue}
-use Rattle.filter_polarity.specs.Written.{most_tokens}
+use Rattle.line_fields.specs.meaning.Names.{Names, most_names}
+use Rattle.conditions.specs.declared.condition.Cond.{Cond}
+use Rattle.filter_polarity.specs.meaning.Polarity.{falling}
+use Rattle.filter_polarity.specs.meaning.Program.{FallingValue}
+use Rattle.conditions.specs.meaning.Written.{most_tokens}
 use Rattle.program_grammar.specs.declared.fault.ReadError.{ReadError}
 use Rattle.program_grammar.specs.declared.fault.ReadError.TheVariants as error
 use Rattle.program_grammar.specs.declared.fault.Refusal.{Refusal}
 use Rattle.program_grammar.specs.declared.fault.Refusal.TheVariants.{NotFalling}
-use Rattle.program_grammar.specs.Grammar.{◌>>=◌}
-use Rattle.program_grammar.specs.Header.{condition_behind, filter_of, if_falling}
-use Rattle.program_grammar.specs.Answers.{Answers, FewNames, HasRoom, Starves}
-use Rattle.program_grammar.specs.Reading.{AddsFirst, Fails, Grows, Parses}
+use Rattle.program_grammar.specs.meaning.Grammar.{◌>>=◌}
+use Rattle.program_grammar.specs.meaning.Header.{condition_behind, filter_of, if_falling}
+use Rattle.program_grammar.specs.calls.Answers.{Answers, FewNames, HasRoom, Starves}
+use Rattle.program_grammar.specs.calls.Reading.{AddsFirst, Fails, Grows, Parses}
 
 -- names that are as they were
 pub Starves-unchanged : {A : Type 0} (names : Names) (said : Result (A × Names) Refusal) → Starves names said names

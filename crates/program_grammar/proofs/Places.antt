@@ -4,10 +4,10 @@ use Rattle.std.specs.List.{position_or_len}
 use Rattle.std.specs.Str.{bytes_eq}
 use Rattle.std.proofs.lemmas.Bool.{lt-ltb, le-ltb, cases_lt}
 use Rattle.std.proofs.lemmas.List.{length-map, map-append}
-use Rattle.job_io.specs.Fields.{is_label_word}
-use Rattle.update_reader.specs.Names.{Names, number_in}
-use Rattle.program_grammar.specs.Grammar.{numbered, numbered_by}
-use Rattle.program_grammar.specs.Reading.{AreNew}
+use Rattle.line_fields.specs.meaning.Fields.{is_label_word}
+use Rattle.line_fields.specs.meaning.Names.{Names, number_in}
+use Rattle.program_grammar.specs.meaning.Grammar.{numbered, numbered_by}
+use Rattle.program_grammar.specs.calls.Reading.{AreNew}
 
 -- a place one further on
 abbrev one_on : Option ℕ → Option ℕ

@@ -5,22 +5,22 @@ use Rattle.std.specs.List.{sum_by}
 use Rattle.std.proofs.lemmas.Bool.{and_parts, eqb-true, leb-true, ltb-true, le-ltb}
 use Rattle.std.proofs.lemmas.List.Sums.{sum_by-cons}
 use Rattle.std.proofs.lemmas.Option.{slice_get-get_or}
-use Rattle.update_reader.specs.Names.{Names, AreNames, number_in}
-use Rattle.filter_polarity.specs.declared.condition.Cond.{Cond}
-use Rattle.filter_polarity.specs.declared.condition.Cond.TheFolds.{map-Cond}
-use Rattle.filter_polarity.specs.declared.condition.Cond.TheOpen as form
-use Rattle.filter_polarity.specs.declared.condition.Factor.{Factor}
-use Rattle.filter_polarity.specs.declared.condition.Op.{Op}
-use Rattle.filter_polarity.specs.declared.condition.Term.{Term}
-use Rattle.filter_polarity.specs.declared.condition.Term.TheVariants.{Vertices, Edges, Joins, Kinds, Degree, Missing, Least}
-use Rattle.filter_polarity.specs.Written.{Written, written, written_of, tokens_at, depth_at, term_tokens, factor_tokens, sum_tokens, is_sum_within, are_numbers_within, IsWithinLimits, most_times, most_bound, most_factors, most_depth, most_tokens}
-use Rattle.filter_polarity.proofs.Forms.{of_form, by_form, fold-form}
+use Rattle.line_fields.specs.meaning.Names.{Names, AreNames, number_in}
+use Rattle.conditions.specs.declared.condition.Cond.{Cond}
+use Rattle.conditions.specs.declared.condition.Cond.TheFolds.{map-Cond}
+use Rattle.conditions.specs.declared.condition.Cond.TheOpen as form
+use Rattle.conditions.specs.declared.condition.Factor.{Factor}
+use Rattle.conditions.specs.declared.condition.Op.{Op}
+use Rattle.conditions.specs.declared.condition.Term.{Term}
+use Rattle.conditions.specs.declared.condition.Term.TheVariants.{Vertices, Edges, Joins, Kinds, Degree, Missing, Least}
+use Rattle.conditions.specs.meaning.Written.{Written, written, written_of, tokens_at, depth_at, term_tokens, factor_tokens, sum_tokens, is_sum_within, are_numbers_within, IsWithinLimits, most_times, most_bound, most_factors, most_depth, most_tokens}
+use Rattle.conditions.proofs.Forms.{of_form, by_form, fold-form}
 use Rattle.program_grammar.specs.declared.fault.Refusal.{Refusal}
 use Rattle.program_grammar.specs.declared.fault.Refusal.TheVariants.{BadLine, TooLong}
-use Rattle.program_grammar.specs.Token.{Token, digits_in, word, number, opening, closing, comma, plus, times, op}
-use Rattle.program_grammar.specs.Lexing.{tokens_of}
-use Rattle.program_grammar.specs.Grammar.{Inside, ◌>>=◌, behind, either, passed, first_of, label, numbered, numbered_by, bound, operator, named_term, label_behind, optional_label, two_labels, term_behind, term_of, factor, factor_by, use_of, more_uses, sum_of, comparison, grouped, atom, neg, and_chain, conj, or_chain, cond_within, inside, alone, condition, condition_of_tokens, condition_of}
-use Rattle.program_grammar.specs.Text.{cond_text, label_text, knows, knows_term}
+use Rattle.program_grammar.specs.meaning.Token.{Token, digits_in, word, number, opening, closing, comma, plus, times, op}
+use Rattle.program_grammar.specs.meaning.Lexing.{tokens_of}
+use Rattle.program_grammar.specs.meaning.Grammar.{Inside, ◌>>=◌, behind, either, passed, first_of, label, numbered, numbered_by, bound, operator, named_term, label_behind, optional_label, two_labels, term_behind, term_of, factor, factor_by, use_of, more_uses, sum_of, comparison, grouped, atom, neg, and_chain, conj, or_chain, cond_within, inside, alone, condition, condition_of_tokens, condition_of}
+use Rattle.program_grammar.specs.meaning.Text.{cond_text, label_text, knows, knows_term}
 use Rattle.program_grammar.proofs.Chaining.{negated, closed, chain-stop, chain-more, conj-first, cond-first, more_uses-stop, more_uses-more}
 use Rattle.program_grammar.proofs.Digits.{value_up_to-decimal}
 use Rattle.program_grammar.proofs.WrittenTokens.{Front, all_known, all_small, knows-form, numbers-form, front_term, front_times, front_factor, front_more, front_sum, front_round, front_at, front_by, front_cond, known_label, tokens_of-written}

@@ -1,7 +1,7 @@
 -- A condition with the parentheses that its place asks for.
 use Rattle.std.proofs.Common.{◌≡◌, ℕ, ◌<◌, ◌≤◌, cond, List, ◌++◌, codes, sym, ap, ◌∙◌, append_assoc}
 use Rattle.std.proofs.lemmas.Bool.{lt-ltb, le-ltb}
-use Rattle.program_grammar.specs.Text.{Text, text_at}
+use Rattle.program_grammar.specs.meaning.Text.{Text, text_at}
 
 module _ (asked : ℕ) (t : Text) where
   pub text_at-none : asked ≤ t.binding → text_at asked t ≡ t.text

@@ -4,26 +4,26 @@ use Rattle.std.specs.Prelude.{decimal}
 use Rattle.std.specs.List.{filter, onto_first}
 use Rattle.std.proofs.lemmas.Bool.{and_from, le-leb, lt-ltb, ne_eqb, or_from}
 use Rattle.std.proofs.lemmas.Fmt.{decimal_digit}
-use Rattle.graph_types.specs.Piece.{most_members}
+use Rattle.graph_types.specs.meaning.Piece.{most_members}
 use Rattle.graph_types.specs.declared.ids.Mode.{Mode}
 use Rattle.graph_types.specs.declared.ids.Mode.TheVariants.{Vertex, Edge}
-use Rattle.job_io.specs.Fields.{has_bytes, is_blank, trim_start, words_of}
-use Rattle.job_io.proofs.WordsOf.{trim_start-first, words_of-first, words_of-trim_start}
-use Rattle.update_reader.specs.Names.{Names, AreNames, most_names}
-use Rattle.filter_polarity.specs.Program.{FallingValue, IsProgram, ProgramValue}
+use Rattle.line_fields.specs.meaning.Fields.{has_bytes, is_blank, trim_start, words_of}
+use Rattle.line_fields.proofs.WordsOf.{trim_start-first, words_of-first, words_of-trim_start}
+use Rattle.line_fields.specs.meaning.Names.{Names, AreNames, most_names}
+use Rattle.filter_polarity.specs.meaning.Program.{FallingValue, IsProgram, ProgramValue}
 use Rattle.program_grammar.specs.declared.fault.Refusal.{Refusal}
 use Rattle.program_grammar.specs.declared.fault.Refusal.TheVariants.{NotFalling}
 use Rattle.program_grammar.specs.declared.header.HeaderReader.{HeaderReader}
 use Rattle.program_grammar.specs.declared.header.HeaderReader.TheVariants as header
 use Rattle.program_grammar.specs.declared.header.HeaderStep.{HeaderStep}
 use Rattle.program_grammar.specs.declared.header.HeaderStep.TheVariants.{More, Ready}
-use Rattle.program_grammar.specs.Token.{Token}
-use Rattle.program_grammar.specs.Lexing.{tokens_of}
-use Rattle.program_grammar.specs.Grammar.{◌>>=◌, condition_of}
-use Rattle.program_grammar.specs.Header.{condition_behind, filter_of, header_said, if_falling, in_range, mode_of, said_by, size_in_range, size_of, size_said, value_of}
-use Rattle.program_grammar.specs.Programs.{LinesFit, fits_next, judged_by, lines_said, program_said}
-use Rattle.program_grammar.specs.Answers.{HasRoom}
-use Rattle.program_grammar.specs.Text.{cond_text, knows, mode_text, program_text}
+use Rattle.program_grammar.specs.meaning.Token.{Token}
+use Rattle.program_grammar.specs.meaning.Lexing.{tokens_of}
+use Rattle.program_grammar.specs.meaning.Grammar.{◌>>=◌, condition_of}
+use Rattle.program_grammar.specs.meaning.Header.{condition_behind, filter_of, header_said, if_falling, in_range, mode_of, said_by, size_in_range, size_of, size_said, value_of}
+use Rattle.program_grammar.specs.meaning.Programs.{LinesFit, fits_next, judged_by, lines_said, program_said}
+use Rattle.program_grammar.specs.calls.Answers.{HasRoom}
+use Rattle.program_grammar.specs.meaning.Text.{cond_text, knows, mode_text, program_text}
 use Rattle.program_grammar.proofs.Splitting.{tokens_of-blanks}
 use Rattle.program_grammar.proofs.Limits.{some_same}
 use Rattle.program_grammar.proofs.Digits.{number_of-decimal}

@@ -1,9 +1,9 @@
 -- The tokens of a text by its first token and what stands behind that.
 use Rattle.std.proofs.Common.{◌≡◌, ◌≢◌, ℕ, zero, suc, ◌+◌, ◌-◌, ◌≤◌, true, false, cond, List, [], ◌∷◌, length, drop, Option, None, Some, IsSome, option_map, option_and_then, unwrap_or, refl, sym, ap, subst, ◌∙◌, arith}
 use Rattle.std.proofs.lemmas.Bool.{false≢true}
-use Rattle.job_io.specs.Fields.{is_blank, trim_start}
-use Rattle.program_grammar.specs.Token.{Token}
-use Rattle.program_grammar.specs.Lexing.{token_at, tokens_from, tokens_of, tokens_in}
+use Rattle.line_fields.specs.meaning.Fields.{is_blank, trim_start}
+use Rattle.program_grammar.specs.meaning.Token.{Token}
+use Rattle.program_grammar.specs.meaning.Lexing.{token_at, tokens_from, tokens_of, tokens_in}
 
 tokens_from-drop : (k : ℕ) (bs : List ℕ) → tokens_from k bs ≡ tokens_from 0 (drop k bs)
 tokens_from-drop zero [] = refl

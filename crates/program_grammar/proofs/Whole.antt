@@ -1,18 +1,18 @@
 -- A whole condition, as it is read.
 use Rattle.std.proofs.Common.{◌≡◌, ℕ, ◌<◌, ◌≤◌, true, false, cond, List, [], ◌∷◌, ◌++◌, length, Option, None, Some, Ok, Err, option_map, unwrap_or, refl, sym, ap, subst, ◌∙◌, arith}
 use Rattle.std.proofs.lemmas.Bool.{lt-ltb, le-ltb}
-use Rattle.update_reader.specs.Names.{Names}
-use Rattle.filter_polarity.specs.declared.condition.Cond.{Cond}
-use Rattle.filter_polarity.specs.Written.{most_depth, most_tokens}
+use Rattle.line_fields.specs.meaning.Names.{Names}
+use Rattle.conditions.specs.declared.condition.Cond.{Cond}
+use Rattle.conditions.specs.meaning.Written.{most_depth, most_tokens}
 use Rattle.program_grammar.specs.declared.fault.ReadError.{ReadError}
 use Rattle.program_grammar.specs.declared.fault.ReadError.TheVariants as error
 use Rattle.program_grammar.specs.declared.fault.Refusal.{Refusal}
 use Rattle.program_grammar.specs.declared.fault.Refusal.TheVariants.{BadLine, TooLong}
-use Rattle.program_grammar.specs.Token.{Token}
-use Rattle.program_grammar.specs.Lexing.{tokens_of, tokens_in}
-use Rattle.program_grammar.specs.Cursor.{is_empty}
-use Rattle.program_grammar.specs.Grammar.{◌>>=◌, cond_within, inside, alone, condition, condition_of, condition_of_tokens}
-use Rattle.program_grammar.specs.Reading.{Left, Fails, GoesOn, KeepsNames, AreNew, NewLabels, Reads, Parses}
+use Rattle.program_grammar.specs.meaning.Token.{Token}
+use Rattle.program_grammar.specs.meaning.Lexing.{tokens_of, tokens_in}
+use Rattle.program_grammar.specs.calls.Cursor.{is_empty}
+use Rattle.program_grammar.specs.meaning.Grammar.{◌>>=◌, cond_within, inside, alone, condition, condition_of, condition_of_tokens}
+use Rattle.program_grammar.specs.calls.Reading.{Left, Fails, GoesOn, KeepsNames, AreNew, NewLabels, Reads, Parses}
 
 module _ (text : List ℕ) (names : Names) where
   pub condition_of-other : None ≡ option_map length (tokens_of text) → condition_of text names ≡ Err BadLine

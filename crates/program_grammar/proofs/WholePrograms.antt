@@ -1,10 +1,10 @@
 -- The lines of a program, one by one.
 use Rattle.std.proofs.Common.{◌≡◌, ℕ, ◌+◌, ◌<◌, ◌≤◌, Bool, true, false, ◌⊎◌, inl, inr, List, ◌∷◌, length, drop, get_or, Result, Ok, Err, codes, refl, sym, ap, subst, ◌∙◌, arith, length-append, if◌then◌else◌}
 use Rattle.std.proofs.lemmas.List.{drop_more}
-use Rattle.job_io.specs.Fields.{is_nothing_line, words_of}
-use Rattle.update_reader.specs.Names.{Names, most_names}
-use Rattle.filter_polarity.specs.Program.{ProgramValue}
-use Rattle.filter_polarity.specs.Written.{most_tokens}
+use Rattle.line_fields.specs.meaning.Fields.{is_nothing_line, words_of}
+use Rattle.line_fields.specs.meaning.Names.{Names, most_names}
+use Rattle.filter_polarity.specs.meaning.Program.{ProgramValue}
+use Rattle.conditions.specs.meaning.Written.{most_tokens}
 use Rattle.program_grammar.specs.declared.fault.ProgramFault.{ProgramFault}
 use Rattle.program_grammar.specs.declared.fault.ProgramFault.TheVariants as fault
 use Rattle.program_grammar.specs.declared.fault.ReadError.TheVariants.{Refused}
@@ -14,11 +14,11 @@ use Rattle.program_grammar.specs.declared.header.HeaderReader.{HeaderReader}
 use Rattle.program_grammar.specs.declared.header.HeaderReader.TheVariants as header
 use Rattle.program_grammar.specs.declared.header.HeaderStep.{HeaderStep}
 use Rattle.program_grammar.specs.declared.header.HeaderStep.TheVariants.{More, Ready}
-use Rattle.program_grammar.specs.Answers.{AnswersLine, FewNames, HasRoom, Starves}
-use Rattle.program_grammar.specs.Faults.{fault_at}
-use Rattle.program_grammar.specs.Header.{mode_of, size_of, filter_of, condition_behind, is_word, header_said, said_by}
-use Rattle.program_grammar.specs.Programs.{LinesFit, LinesStarve, ReadsProgram, RoomFor, fits_next, judged_by, lines_said, program_said, starves_next}
-use Rattle.program_grammar.specs.Reading.{Grows}
+use Rattle.program_grammar.specs.calls.Answers.{AnswersLine, FewNames, HasRoom, Starves}
+use Rattle.program_grammar.specs.calls.Faults.{fault_at}
+use Rattle.program_grammar.specs.meaning.Header.{mode_of, size_of, filter_of, condition_behind, is_word, header_said, said_by}
+use Rattle.program_grammar.specs.meaning.Programs.{LinesFit, LinesStarve, ReadsProgram, RoomFor, fits_next, judged_by, lines_said, program_said, starves_next}
+use Rattle.program_grammar.specs.calls.Reading.{Grows}
 use Rattle.program_grammar.proofs.Limits.{bind_ok, ok_same}
 
 pub at_line : (lines seen : List (List ℕ)) (i : ℕ) (line text : List ℕ) → seen ≡ lines → line ≡ get_or seen i line → i < length seen → text ≡ line → drop i lines ≡ text ∷ drop (i + 1) lines

@@ -4,21 +4,21 @@ use Rattle.std.specs.Prelude.{decimal}
 use Rattle.std.specs.List.{list_all, take_while}
 use Rattle.std.proofs.lemmas.Bool.{and_parts, and_from, and_left, or_from, or_parts, or_cases, eqb-true, ne_eqb, leb-true, lt-leb, lt-ltb, ltb-true, false≢true, not-true, false_from_ne_true}
 use Rattle.std.proofs.lemmas.List.Sums.{take_while-cons}
-use Rattle.job_io.specs.Fields.{has_bytes, is_blank, is_digit, is_label_start, is_label_byte, is_label_word, trim_start}
-use Rattle.update_reader.specs.Names.{Names}
-use Rattle.filter_polarity.specs.declared.condition.Cond.{Cond, fold-Cond}
-use Rattle.filter_polarity.specs.declared.condition.Cond.TheOpen.{Cond-F, True, False, Compare, Not, And, Or}
-use Rattle.filter_polarity.specs.declared.condition.Cond.TheFolds.{map-Cond}
-use Rattle.filter_polarity.specs.declared.condition.Factor.{Factor}
-use Rattle.filter_polarity.specs.declared.condition.Op.{Op}
-use Rattle.filter_polarity.specs.declared.condition.Op.TheVariants.{AtMost, Below, AtLeast, Above, Equal, Unequal}
-use Rattle.filter_polarity.specs.declared.condition.Term.{Term}
-use Rattle.filter_polarity.specs.declared.condition.Term.TheVariants.{Vertices, Edges, Joins, Kinds, Degree, Missing, Least}
-use Rattle.filter_polarity.specs.Written.{are_numbers_within, are_numbers_within_of, is_sum_within, most_times, most_bound}
-use Rattle.filter_polarity.proofs.Forms.{of_form, by_form, fold-form}
-use Rattle.program_grammar.specs.Token.{Token, word, number, opening, closing, comma, plus, times, op}
-use Rattle.program_grammar.specs.Lexing.{sign_at, token_at, tokens_of}
-use Rattle.program_grammar.specs.Text.{Text, text_at, text_by, written_cond, cond_text, label_text, term_text, factor_text, more_text, sum_text, op_text, knows, knows_by, knows_term}
+use Rattle.line_fields.specs.meaning.Fields.{has_bytes, is_blank, is_digit, is_label_start, is_label_byte, is_label_word, trim_start}
+use Rattle.line_fields.specs.meaning.Names.{Names}
+use Rattle.conditions.specs.declared.condition.Cond.{Cond, fold-Cond}
+use Rattle.conditions.specs.declared.condition.Cond.TheOpen.{Cond-F, True, False, Compare, Not, And, Or}
+use Rattle.conditions.specs.declared.condition.Cond.TheFolds.{map-Cond}
+use Rattle.conditions.specs.declared.condition.Factor.{Factor}
+use Rattle.conditions.specs.declared.condition.Op.{Op}
+use Rattle.conditions.specs.declared.condition.Op.TheVariants.{AtMost, Below, AtLeast, Above, Equal, Unequal}
+use Rattle.conditions.specs.declared.condition.Term.{Term}
+use Rattle.conditions.specs.declared.condition.Term.TheVariants.{Vertices, Edges, Joins, Kinds, Degree, Missing, Least}
+use Rattle.conditions.specs.meaning.Written.{are_numbers_within, are_numbers_within_of, is_sum_within, most_times, most_bound}
+use Rattle.conditions.proofs.Forms.{of_form, by_form, fold-form}
+use Rattle.program_grammar.specs.meaning.Token.{Token, word, number, opening, closing, comma, plus, times, op}
+use Rattle.program_grammar.specs.meaning.Lexing.{sign_at, token_at, tokens_of}
+use Rattle.program_grammar.specs.meaning.Text.{Text, text_at, text_by, written_cond, cond_text, label_text, term_text, factor_text, more_text, sum_text, op_text, knows, knows_by, knows_term}
 use Rattle.program_grammar.proofs.Splitting.{tokens_of-front}
 use Rattle.program_grammar.proofs.Digits.{digits-decimal, has_bytes-decimal}
 

@@ -1,11 +1,2 @@
-pub mod Token
-pub mod Lexing
-pub mod Grammar
-pub mod Cursor
-pub mod Reading
-pub mod Sizes
-pub mod Header
-pub mod Answers
-pub mod Faults
-pub mod Programs
-pub mod Text
+pub mod meaning
+pub mod calls

@@ -1,19 +1,19 @@
 ghost use Rattle.std.specs.Prelude.{◌≡◌, ◌+◌, map, IfOk, MatchResult};
-ghost use Rattle.filter_polarity.specs.declared.condition.Cond.TheOpen as form;
-ghost use Rattle.filter_polarity.specs.declared.condition.Cond.TheViews.{roll-Cond};
-ghost use Rattle.filter_polarity.specs.Written.{IsWithinLimits};
-ghost use Rattle.program_grammar.specs.Grammar.{atom, bound, comparison, cond_within, condition_of, conj, inside, neg, operator};
-ghost use Rattle.program_grammar.specs.Reading.{Fails, GoesOn, Parses, Reads, Takes};
+ghost use Rattle.conditions.specs.declared.condition.Cond.TheOpen as form;
+ghost use Rattle.conditions.specs.declared.condition.Cond.TheViews.{roll-Cond};
+ghost use Rattle.conditions.specs.meaning.Written.{IsWithinLimits};
+ghost use Rattle.program_grammar.specs.meaning.Grammar.{atom, bound, comparison, cond_within, condition_of, conj, inside, neg, operator};
+ghost use Rattle.program_grammar.specs.calls.Reading.{Fails, GoesOn, Parses, Reads, Takes};
 
 use crate::fault::{ReadError, Refusal};
 use crate::reader::ConditionReader;
 use crate::terms::value_up_to;
 use crate::token::Token;
 use crate::tokens::count_tokens;
-use filter_polarity::{Cond, Op};
+use conditions::{Cond, Op};
 use sqlite_items::Boxed;
 use std::alloc::{AllocError, Global};
-use update_reader::Names;
+use line_fields::Names;
 
 /// The largest bound of a sum.
 const MOST_BOUND: u32 = 10_000;

@@ -1,5 +1,5 @@
 ghost use Rattle.std.specs.Prelude.{◌≡◌};
-ghost use Rattle.program_grammar.specs.Faults.{fault_at};
+ghost use Rattle.program_grammar.specs.calls.Faults.{fault_at};
 
 use crate::header::Word;
 use graph_types::NoMemory;

@@ -1,20 +1,21 @@
 ghost use Rattle.std.specs.Prelude.{◌≡◌, codes, map, IfOk, MatchResult};
 ghost use Rattle.std.specs.Option.{option_copied};
-ghost use Rattle.filter_polarity.specs.Written.{IsWithinLimits};
-ghost use Rattle.job_io.specs.Fields.{words_of};
-ghost use Rattle.program_grammar.specs.Header.{awaited, condition_behind, filter_of, header_said, is_first as is_first_of, is_pair as is_pair_of, is_word as is_word_of, mode_of, size_of, value_of};
-ghost use Rattle.program_grammar.specs.Reading.{Fails, Parses};
-ghost use Rattle.program_grammar.specs.Answers.{Answers, AnswersLine, HasRoom};
+ghost use Rattle.conditions.specs.meaning.Written.{IsWithinLimits};
+ghost use Rattle.line_fields.specs.meaning.Fields.{words_of};
+ghost use Rattle.program_grammar.specs.meaning.Header.{awaited, condition_behind, filter_of, header_said, is_first as is_first_of, is_pair as is_pair_of, is_word as is_word_of, mode_of, size_of, value_of};
+ghost use Rattle.program_grammar.specs.calls.Reading.{Fails, Parses};
+ghost use Rattle.program_grammar.specs.calls.Answers.{Answers, AnswersLine, HasRoom};
 
 use crate::condition::parse;
 use crate::fault::{ProgramFault, ReadError, Refusal};
 use crate::labels::intern_all;
 use crate::limited::{Filter, Matching, Size};
-use filter_polarity::{Cond, Program, falling};
+use filter_polarity::{Program, falling};
+use conditions::Cond;
 use graph_types::Mode;
-use job_io::{is_nothing, read_number, rest, word, words};
+use line_fields::{is_nothing, read_number, rest, word, words};
 use std::alloc::Global;
-use update_reader::Names;
+use line_fields::Names;
 
 /// The word with which a line of the header begins.
 #[derive(Clone, Copy, Debug, PartialEq, Eq)]

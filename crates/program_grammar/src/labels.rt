@@ -1,14 +1,14 @@
 ghost use Rattle.std.specs.Prelude.{◌≡◌, ◌+◌, ◌≤◌, ◌<◌, ◌++◌, length, map, position, IfOk, IsTrue, MatchOption, OnErr, OnOk};
 ghost use Rattle.std.specs.Str.{bytes_eq};
-ghost use Rattle.filter_polarity.specs.Written.{most_tokens};
-ghost use Rattle.job_io.specs.Fields.{is_label_word};
-ghost use Rattle.program_grammar.specs.Grammar.{numbered};
-ghost use Rattle.program_grammar.specs.Reading.{AddsFirst, AreNew};
-ghost use Rattle.update_reader.specs.Names.{most_names};
+ghost use Rattle.conditions.specs.meaning.Written.{most_tokens};
+ghost use Rattle.line_fields.specs.meaning.Fields.{is_label_word};
+ghost use Rattle.program_grammar.specs.meaning.Grammar.{numbered};
+ghost use Rattle.program_grammar.specs.calls.Reading.{AddsFirst, AreNew};
+ghost use Rattle.line_fields.specs.meaning.Names.{most_names};
 
 use graph_types::{LabelId, NoMemory};
 use std::alloc::Global;
-use update_reader::{NameFault, Names};
+use line_fields::{NameFault, Names};
 
 /// The number of a label behind the names and the labels that they lack. A label that is new is put there.
 pub(crate) fn number_of<'t>(

@@ -1,9 +1,10 @@
 ghost use Rattle.std.specs.Prelude.{◌≡◌, ◌≤◌};
-ghost use Rattle.graph_types.specs.Piece.{most_members};
-ghost use Rattle.filter_polarity.specs.Written.{IsWithinLimits};
-ghost use Rattle.program_grammar.specs.Sizes.{size_in};
+ghost use Rattle.graph_types.specs.meaning.Piece.{most_members};
+ghost use Rattle.conditions.specs.meaning.Written.{IsWithinLimits};
+ghost use Rattle.program_grammar.specs.meaning.Sizes.{size_in};
 
-use filter_polarity::{Cond, Falling};
+use filter_polarity::Falling;
+use conditions::Cond;
 use std::marker::Model;
 
 /// The most members of a piece, 1 to 8. Contracts see the number.
@@ -14,7 +15,7 @@ pub struct Size {
 
 impl Model for Size {
     ghost use Rattle.std.specs.Prelude.{ℕ, ◌≤◌};
-    ghost use Rattle.graph_types.specs.Piece.{most_members};
+    ghost use Rattle.graph_types.specs.meaning.Piece.{most_members};
 
     ghost Value = { ℕ };
 
@@ -54,9 +55,9 @@ pub struct Filter {
 
 impl Model for Filter {
     ghost use Rattle.std.specs.Coded.{codes};
-    ghost use Rattle.filter_polarity.specs.contracts.condition.Cond as conditions;
-    ghost use Rattle.filter_polarity.specs.Program.{FallingValue};
-    ghost use Rattle.filter_polarity.specs.Written.{IsWithinLimits};
+    ghost use Rattle.conditions.specs.contracts.condition.Cond as conditions;
+    ghost use Rattle.filter_polarity.specs.meaning.Program.{FallingValue};
+    ghost use Rattle.conditions.specs.meaning.Written.{IsWithinLimits};
 
     ghost Value = { FallingValue };
 
@@ -91,9 +92,9 @@ pub struct Matching {
 }
 
 impl Model for Matching {
-    ghost use Rattle.filter_polarity.specs.contracts.condition.Cond as conditions;
-    ghost use Rattle.filter_polarity.specs.declared.condition.Cond.{Cond as SpecCond};
-    ghost use Rattle.filter_polarity.specs.Written.{IsWithinLimits};
+    ghost use Rattle.conditions.specs.contracts.condition.Cond as conditions;
+    ghost use Rattle.conditions.specs.declared.condition.Cond.{Cond as SpecCond};
+    ghost use Rattle.conditions.specs.meaning.Written.{IsWithinLimits};
 
     ghost Value = { SpecCond };
 

@@ -1,13 +1,13 @@
 ghost use Rattle.std.specs.Prelude.{◌⊎◌, map, IfOk, IsTrue};
-ghost use Rattle.program_grammar.specs.Programs.{LinesFit, ReadsProgram, RoomFor};
-ghost use Rattle.program_grammar.specs.Text.{knows};
+ghost use Rattle.program_grammar.specs.meaning.Programs.{LinesFit, ReadsProgram, RoomFor};
+ghost use Rattle.program_grammar.specs.meaning.Text.{knows};
 
 use crate::fault::ProgramFault;
 use crate::header::{HeaderReader, HeaderStep};
 use filter_polarity::Program;
 use job_io::LineList;
 use std::alloc::Global;
-use update_reader::Names;
+use line_fields::Names;
 
 /// Reads the program that lines say, up to its `begin`. Labels that the names lack are put behind them in the
 /// order in which they stand, at most 1,024. A refusal leaves there those of the lines before. The first line

@@ -1,23 +1,23 @@
 ghost use Rattle.std.specs.Prelude.{◌≡◌, ◌≤◌, length, map, IfOk, IfErr, IsSome};
 ghost use Rattle.std.specs.Bool.{MatchBool};
 ghost use Rattle.std.specs.Option.{option_copied};
-ghost use Rattle.filter_polarity.specs.Written.{most_tokens};
-ghost use Rattle.program_grammar.specs.Cursor.{is_empty, TakesFirst, token_of};
-ghost use Rattle.program_grammar.specs.Lexing.{tokens_in, tokens_of};
-ghost use Rattle.program_grammar.specs.Grammar.{label};
-ghost use Rattle.program_grammar.specs.Reading.{GoesOn, KeepsNames, Misses, NewLabels, Passes, Reads};
-ghost use Rattle.program_grammar.specs.Token.{bytes_in, digits_in, op_in};
+ghost use Rattle.conditions.specs.meaning.Written.{most_tokens};
+ghost use Rattle.program_grammar.specs.calls.Cursor.{is_empty, TakesFirst, token_of};
+ghost use Rattle.program_grammar.specs.meaning.Lexing.{tokens_in, tokens_of};
+ghost use Rattle.program_grammar.specs.meaning.Grammar.{label};
+ghost use Rattle.program_grammar.specs.calls.Reading.{GoesOn, KeepsNames, Misses, NewLabels, Passes, Reads};
+ghost use Rattle.program_grammar.specs.meaning.Token.{bytes_in, digits_in, op_in};
 
 use crate::fault::{ReadError, Refusal};
 use crate::labels::number_of;
 use crate::token::Token;
 use crate::tokens::Tokens;
-use filter_polarity::Op;
+use conditions::Op;
 use graph_types::LabelId;
-use job_io::is_label;
+use line_fields::is_label;
 use std::alloc::Global;
 use std::marker::Model;
-use update_reader::Names;
+use line_fields::Names;
 
 /// A condition that is being read: its tokens from the next one on, the names before it, and the labels in
 /// it that those lack. The names themselves change only once a whole line was read.
@@ -30,8 +30,8 @@ pub(crate) struct ConditionReader<'t, 'n> {
 
 impl<'t, 'n> Model for ConditionReader<'t, 'n> {
     ghost use Rattle.std.specs.Prelude.{◌+◌, ◌≤◌, ◌++◌, length, map};
-    ghost use Rattle.program_grammar.specs.Reading.{AreNew, Left, left_code};
-    ghost use Rattle.filter_polarity.specs.Written.{most_tokens};
+    ghost use Rattle.program_grammar.specs.calls.Reading.{AreNew, Left, left_code};
+    ghost use Rattle.conditions.specs.meaning.Written.{most_tokens};
 
     ghost Value = { Left };
 

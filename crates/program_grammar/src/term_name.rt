@@ -1,5 +1,5 @@
 ghost use Rattle.std.specs.Prelude.{◌≡◌};
-ghost use Rattle.program_grammar.specs.Grammar.{term_name};
+ghost use Rattle.program_grammar.specs.meaning.Grammar.{term_name};
 
 /// The word with which a term begins.
 #[derive(Clone, Copy, Debug, PartialEq, Eq)]

@@ -1,14 +1,14 @@
 ghost use Rattle.std.specs.Prelude.{◌≡◌, ◌++◌, ◌∷◌, [], IfOk};
-ghost use Rattle.program_grammar.specs.Grammar.{factor, named_term, optional_label, sum_of, term_behind, term_of, two_labels, use_of, value_up_to};
-ghost use Rattle.program_grammar.specs.Reading.{GoesOn, Reads, ReadsUse, Takes};
+ghost use Rattle.program_grammar.specs.meaning.Grammar.{factor, named_term, optional_label, sum_of, term_behind, term_of, two_labels, use_of, value_up_to};
+ghost use Rattle.program_grammar.specs.calls.Reading.{GoesOn, Reads, ReadsUse, Takes};
 
 use crate::fault::{ReadError, Refusal};
 use crate::reader::ConditionReader;
 use crate::term_name::{TermName, read_term_name};
 use crate::token::Token;
-use filter_polarity::{Factor, FactorList, Term};
+use conditions::{Factor, FactorList, Term};
 use graph_types::{LabelId, NoMemory};
-use job_io::read_number;
+use line_fields::read_number;
 use std::alloc::Global;
 
 /// The most uses of a sum, and the largest factor.

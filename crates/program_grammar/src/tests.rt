@@ -6,7 +6,7 @@ use job_io::{ByteList, LineList};
 use std::alloc::Global;
 use std::process::Abort;
 use std::test::Fail;
-use update_reader::Names;
+use line_fields::Names;
 
 /// What comes of reading a text as a condition.
 #[derive(Clone, Copy, Debug, PartialEq, Eq)]

@@ -1,12 +1,12 @@
 ghost use Rattle.std.specs.Prelude.{◌≡◌, ◌≤◌, Bool, length, MatchOption, take_while};
 ghost use Rattle.std.specs.Option.{option_copied, option_map};
-ghost use Rattle.job_io.specs.Fields.{is_digit, is_label_byte as continues_label};
-ghost use Rattle.program_grammar.specs.Lexing.{sign_at, token_at};
-ghost use Rattle.program_grammar.specs.Token.{bytes_in, digits_in, op_in, is_same as is_same_token};
-ghost use Rattle.program_grammar.specs.Cursor.{token_of};
+ghost use Rattle.line_fields.specs.meaning.Fields.{is_digit, is_label_byte as continues_label};
+ghost use Rattle.program_grammar.specs.meaning.Lexing.{sign_at, token_at};
+ghost use Rattle.program_grammar.specs.meaning.Token.{bytes_in, digits_in, op_in, is_same as is_same_token};
+ghost use Rattle.program_grammar.specs.calls.Cursor.{token_of};
 
-use filter_polarity::Op;
-use job_io::{is_label_byte, is_label_start};
+use conditions::Op;
+use line_fields::{is_label_byte, is_label_start};
 
 /// A token of a condition. A word and a number lie where they stand in the text.
 #[derive(Clone, Copy, Debug)]

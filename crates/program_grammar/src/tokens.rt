@@ -2,14 +2,14 @@ ghost use Rattle.std.specs.Prelude.{◌≡◌, ◌≤◌, [], length, IsSome};
 ghost use Rattle.std.specs.Option.{option_copied, option_map};
 ghost use Rattle.std.specs.Bool.{MatchBool};
 ghost use Rattle.std.specs.Prelude.{None, Some};
-ghost use Rattle.program_grammar.specs.Lexing.{tokens_in, tokens_of};
-ghost use Rattle.program_grammar.specs.Grammar.{behind};
-ghost use Rattle.program_grammar.specs.Cursor.{Splits, TakesFirst, token_of, Yields};
-ghost use Rattle.program_grammar.specs.Token.{bytes_in, digits_in, op_in};
+ghost use Rattle.program_grammar.specs.meaning.Lexing.{tokens_in, tokens_of};
+ghost use Rattle.program_grammar.specs.meaning.Grammar.{behind};
+ghost use Rattle.program_grammar.specs.calls.Cursor.{Splits, TakesFirst, token_of, Yields};
+ghost use Rattle.program_grammar.specs.meaning.Token.{bytes_in, digits_in, op_in};
 
 use crate::token::{Token, token_at};
-use filter_polarity::Op;
-use job_io::trim_start;
+use conditions::Op;
+use line_fields::trim_start;
 use std::marker::Model;
 
 /// The tokens of a text that are still to come. It takes no memory.
@@ -20,8 +20,8 @@ pub(crate) struct Tokens<'a> {
 
 impl<'a> Model for Tokens<'a> {
     ghost use Rattle.std.specs.Prelude.{List, IsSome};
-    ghost use Rattle.program_grammar.specs.Token.{Token as SpecToken, tokens_code};
-    ghost use Rattle.program_grammar.specs.Lexing.{tokens_in, tokens_of};
+    ghost use Rattle.program_grammar.specs.meaning.Token.{Token as SpecToken, tokens_code};
+    ghost use Rattle.program_grammar.specs.meaning.Lexing.{tokens_in, tokens_of};
 
     ghost Value = { List SpecToken };
 

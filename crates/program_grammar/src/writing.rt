@@ -1,16 +1,17 @@
 ghost use Rattle.std.specs.List.{list_all};
-ghost use Rattle.update_reader.specs.Names.{Names as NameList};
+ghost use Rattle.line_fields.specs.meaning.Names.{Names as NameList};
 ghost use Rattle.std.specs.Prelude.{◌≡◌, ◌<◌, ◌++◌, codes, decimal, length, IfOk, IsTrue, Ok, OnOk};
-ghost use Rattle.program_grammar.specs.Programs.{LinesFit, program_said};
-ghost use Rattle.program_grammar.specs.Text.{cond_text, factor_text, knows, knows_term, label_text, mode_text, op_text, program_text, sum_text, term_text, text_at, written_cond};
+ghost use Rattle.program_grammar.specs.meaning.Programs.{LinesFit, program_said};
+ghost use Rattle.program_grammar.specs.meaning.Text.{cond_text, factor_text, knows, knows_term, label_text, mode_text, op_text, program_text, sum_text, term_text, text_at, written_cond};
 
 use crate::header::HeaderReader;
-use filter_polarity::{Cond, Factor, Op, Program, Term};
+use filter_polarity::Program;
+use conditions::{Cond, Factor, Op, Term};
 use graph_types::{LabelId, Mode, NoMemory};
 use itoa::Buffer;
 use job_io::{ByteList, LineList};
 use std::alloc::Global;
-use update_reader::Names;
+use line_fields::Names;
 
 /// The five lines of a program, with no more parentheses than are needed and one blank between tokens, but none
 /// in a use of a term and none right inside of parentheses. Read with these names they give the program back, and add

@@ -3,7 +3,7 @@ use Rattle.std.proofs.Common.{◌≡◌, ℕ, zero, suc, ◌+◌, ◌*◌, ◌�
 use Rattle.std.specs.Prelude.{slice_get, decimal}
 use Rattle.std.specs.List.{flat_map}
 use Rattle.graph_types.specs.declared.member.Member.{Member}
-use Rattle.mining_model.specs.Text.{member_text, spaced}
+use Rattle.record_text.specs.meaning.Text.{member_text, spaced}
 
 module _ {A B : Type 0} (f : A → List B) where
   flat_map-take_suc : (xs : List A) (i : ℕ) (x : A) → slice_get xs i ≡ Some x → flat_map f (take (suc i) xs) ≡ flat_map f (take i xs) ++ f x

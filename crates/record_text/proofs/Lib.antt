@@ -7,3 +7,4 @@ pub mod Pieces
 pub mod Sorted
 pub mod Words
 pub mod Written
+pub mod Texts

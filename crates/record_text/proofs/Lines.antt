@@ -4,7 +4,7 @@ use Rattle.std.specs.Prelude.{codes}
 use Rattle.std.specs.Option.{option_map, option_and_then}
 use Rattle.std.specs.Str.{bytes_eq}
 use Rattle.record_text.specs.declared.read.RecordLine.TheVariants.{Rem, Add, Done}
-use Rattle.record_text.specs.Grammar.{piece_said, record_said, stamp_of}
+use Rattle.record_text.specs.meaning.Grammar.{piece_said, record_said, stamp_of}
 
 no_record : (a b : Bool) (t : Option ℕ) →
     (if a then option_and_then (λ t. option_map (λ piece. Rem t piece) None) t

@@ -3,8 +3,8 @@ use Rattle.std.proofs.Common.{◌≡◌, ℕ, zero, suc, ◌+◌, ◌*◌, ◌�
 use Rattle.std.specs.Prelude.{slice_get}
 use Rattle.std.specs.List.{flat_map}
 use Rattle.graph_types.specs.declared.member.Member.{Member}
-use Rattle.mining_model.specs.Text.{member_text, spaced}
-use Rattle.record_text.specs.Listing.{members_text}
+use Rattle.record_text.specs.meaning.Text.{member_text, spaced}
+use Rattle.record_text.specs.meaning.Listing.{members_text}
 use Rattle.record_text.proofs.BegunLine.{flat_map-take_more}
 
 -- the line has these first n members

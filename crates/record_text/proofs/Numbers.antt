@@ -6,7 +6,7 @@ use Rattle.std.proofs.Math.Nat.{lt_trans}
 use Rattle.std.proofs.lemmas.Bool.{and_from, le-leb, lt-ltb}
 use Rattle.std.proofs.lemmas.Fmt.{decimal_by_steps, decimal_nonempty, length-decimal-le}
 use Rattle.std.proofs.lemmas.List.Folds.{list_all-append}
-use Rattle.job_io.specs.Fields.{has_bytes, id_of, is_digit, is_number, number_of, value_after}
+use Rattle.line_fields.specs.meaning.Fields.{has_bytes, id_of, is_digit, is_number, number_of, value_after}
 
 value_after-push : (n : ℕ) (ds : List ℕ) (d : ℕ) → value_after n (ds ++ d ∷ []) ≡ 10 * value_after n ds + (d - 48)
 value_after-push n [] d = refl

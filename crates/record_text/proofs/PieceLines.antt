@@ -6,8 +6,8 @@ use Rattle.std.proofs.lemmas.List.Folds.{flat_map-map}
 use Rattle.std.proofs.lemmas.Grind.{flat_map-append}
 use Rattle.std.proofs.lemmas.Option.{slice_get_read}
 use Rattle.graph_types.specs.declared.member.Member.{Member}
-use Rattle.graph_types.specs.Piece.{PieceValue, members_of_all}
-use Rattle.job_io.specs.Ends.{AppendsFront, PassesOn}
+use Rattle.graph_types.specs.meaning.Piece.{PieceValue, members_of_all}
+use Rattle.job_io.specs.calls.Ends.{AppendsFront, PassesOn}
 use Rattle.job_io.proofs.Gathering.{PassesOn-then, AppendsFront-then, AppendsFront-more}
 use Rattle.record_text.proofs.BegunLine.{flat_map-take_more}
 

@@ -10,9 +10,9 @@ use Rattle.std.proofs.lemmas.List.Folds.{list_all-append}
 use Rattle.graph_types.specs.declared.ids.Mode.{Mode}
 use Rattle.graph_types.specs.declared.ids.Mode.TheVariants as mode
 use Rattle.graph_types.specs.declared.member.Member.{Member}
-use Rattle.graph_types.specs.Orders.{member_cmp_total}
-use Rattle.graph_types.specs.Piece.{PieceValue, CanJoin, joined, is_ascending, member_cmp, member_eq, member_lt, mode_cmp, mode_of, most_members, with_member}
-use Rattle.record_text.specs.Grammar.{are_alike, member_of, members_said, piece_made, piece_said}
+use Rattle.graph_types.specs.meaning.Orders.{member_cmp_total}
+use Rattle.graph_types.specs.meaning.Piece.{PieceValue, CanJoin, joined, is_ascending, member_cmp, member_eq, member_lt, mode_cmp, mode_of, most_members, with_member}
+use Rattle.record_text.specs.meaning.Grammar.{are_alike, member_of, members_said, piece_made, piece_said}
 use Rattle.mining_model.proofs.Ascending.{IsStrictlySortedBy-append, all-weaker}
 use Rattle.record_text.proofs.Sorted.{sorted-parts, sorted-one, all-append_parts, all-below_last, absent_above, sorted_from_ascending, ascending_from_sorted, less}
 

@@ -8,8 +8,8 @@ use Rattle.std.specs.declared.cmp.Ordering.{Ordering}
 use Rattle.std.specs.declared.cmp.Ordering.TheVariants.{Less, Equal, Greater}
 use Rattle.std.proofs.lemmas.Bool.{false≢true, or_from}
 use Rattle.graph_types.specs.declared.member.Member.{Member}
-use Rattle.graph_types.specs.Orders.{member_cmp_total}
-use Rattle.graph_types.specs.Piece.{member_cmp, member_lt, is_ascending}
+use Rattle.graph_types.specs.meaning.Orders.{member_cmp_total}
+use Rattle.graph_types.specs.meaning.Piece.{member_cmp, member_lt, is_ascending}
 use Rattle.mining_model.proofs.Ascending.{all-append, all-weaker}
 
 pub all-append_parts : {A : Type 0} (P : A → Type 0) (xs ys : List A) → AllByRecursion P (xs ++ ys) → AllByRecursion P xs × AllByRecursion P ys

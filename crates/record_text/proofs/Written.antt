@@ -13,14 +13,14 @@ use Rattle.std.proofs.lemmas.List.Splits.{slice_split_none, slice_split_at}
 use Rattle.graph_types.specs.declared.ids.Mode.{Mode}
 use Rattle.graph_types.specs.declared.member.Member.{Member}
 use Rattle.graph_types.specs.declared.member.Member.TheVariants as member
-use Rattle.graph_types.specs.Piece.{PieceValue, IsPiece, IsOfMode, HasLowerFirst, is_ascending, mode_cmp, mode_of, most_members}
-use Rattle.job_io.specs.Fields.{has_bytes, is_blank, is_digit, words_of}
-use Rattle.job_io.specs.Lines.{HasNoLf, cr, lf, without_cr}
-use Rattle.mining_model.specs.Text.{done_text, member_text, record_line, spaced}
+use Rattle.graph_types.specs.meaning.Piece.{PieceValue, IsPiece, IsOfMode, HasLowerFirst, is_ascending, mode_cmp, mode_of, most_members}
+use Rattle.line_fields.specs.meaning.Fields.{has_bytes, is_blank, is_digit, words_of}
+use Rattle.job_io.specs.meaning.Lines.{HasNoLf, cr, lf, without_cr}
+use Rattle.record_text.specs.meaning.Text.{done_text, member_text, record_line, spaced}
 use Rattle.record_text.specs.declared.read.RecordLine.{RecordLine}
 use Rattle.record_text.specs.declared.read.RecordLine.TheVariants.{Rem, Add, Done}
-use Rattle.record_text.specs.Grammar.{are_alike, edge_from, is_dash, line_said, member_of, member_of_parts, members_said, piece_made, piece_said, record_of}
-use Rattle.record_text.specs.Writable.{HasShortIds, IsStamp, IsWritable}
+use Rattle.record_text.specs.meaning.Grammar.{are_alike, edge_from, is_dash, line_said, member_of, member_of_parts, members_said, piece_made, piece_said, record_of}
+use Rattle.record_text.specs.meaning.Writable.{HasShortIds, IsStamp, IsWritable}
 use Rattle.record_text.proofs.Numbers.{digits-decimal, has_bytes-decimal, id_of-decimal, number_of-decimal}
 use Rattle.record_text.proofs.Pieces.{Makes, piece_made-of, mode_itself}
 use Rattle.record_text.proofs.Words.{slice_split-digits}

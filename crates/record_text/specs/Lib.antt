@@ -1,3 +1,1 @@
-pub mod Grammar
-pub mod Listing
-pub mod Writable
+pub mod meaning

@@ -1,10 +1,13 @@
 //! Laws about records as text: each is the contract of a function that does nothing.
 
-ghost use Rattle.std.specs.Prelude.{◌≡◌, ◌++◌, ℕ, List, Some, codes};
-ghost use Rattle.graph_types.specs.Piece.{PieceValue};
-ghost use Rattle.mining_model.specs.Text.{done_text, record_line};
-ghost use Rattle.record_text.specs.Grammar.{record_of};
-ghost use Rattle.record_text.specs.Writable.{IsStamp, IsWritable};
+ghost use Rattle.std.specs.Prelude.{◌≡◌, ◌++◌, ℕ, List, Some, codes, length};
+ghost use Rattle.graph_types.specs.meaning.Graph.{empty_graph};
+ghost use Rattle.graph_types.specs.declared.update.Update.{Update};
+ghost use Rattle.mining_model.specs.meaning.Embeddings.{Pattern};
+ghost use Rattle.graph_types.specs.meaning.Piece.{PieceValue};
+ghost use Rattle.record_text.specs.meaning.Text.{done_text, record_line, text_from, text_upto};
+ghost use Rattle.record_text.specs.meaning.Grammar.{record_of};
+ghost use Rattle.record_text.specs.meaning.Writable.{IsStamp, IsWritable};
 ghost use Rattle.record_text.specs.declared.read.RecordLine.TheVariants.{Rem, Add, Done};
 
 /// Reading is the inverse of writing: a line that was written, without its LF, is read as the record
@@ -16,4 +19,10 @@ pub fn reads_what_is_written()
         line ++ codes "\n" ≡ record_line (codes "NEW") t piece.members → record_of line ≡ Some (Add t piece) }
     ensures done { (t : ℕ) (line : List ℕ) → IsStamp t →
         line ++ codes "\n" ≡ done_text t → record_of line ≡ Some (Done t) }
+{}
+
+/// The text of some updates, made one after another, is that of timestamps 1 to their number.
+pub fn text_of_each_timestamp()
+    ensures { (pattern : Pattern) (us : List Update) →
+        text_from pattern empty_graph 0 us ≡ text_upto pattern us (length us) }
 {}

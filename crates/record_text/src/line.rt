@@ -1,6 +1,6 @@
 ghost use Rattle.std.specs.Prelude.{◌≡◌, ◌+◌, ◌≤◌, ◌++◌, length, take};
-ghost use Rattle.mining_model.specs.Text.{done_text, member_text, record_line, spaced};
-ghost use Rattle.record_text.specs.Listing.{members_text, piece_line};
+ghost use Rattle.record_text.specs.meaning.Text.{done_text, member_text, record_line, spaced};
+ghost use Rattle.record_text.specs.meaning.Listing.{members_text, piece_line};
 
 use graph_types::{Member, Piece, Stamp};
 use job_io::{SHORT_LINE_BYTES, ShortLine};

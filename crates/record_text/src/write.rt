@@ -1,8 +1,8 @@
 ghost use Rattle.std.specs.Prelude.{◌≡◌, ◌++◌};
-ghost use Rattle.graph_types.specs.Piece.{members_of_all};
-ghost use Rattle.job_io.specs.Ends.{Gathers, HasCause};
-ghost use Rattle.mining_model.specs.Text.{delta_text, done_text, records_text};
-ghost use Rattle.record_text.specs.Listing.{listing_text};
+ghost use Rattle.graph_types.specs.meaning.Piece.{members_of_all};
+ghost use Rattle.job_io.specs.calls.Ends.{Gathers, HasCause};
+ghost use Rattle.record_text.specs.meaning.Text.{delta_text, done_text, records_text};
+ghost use Rattle.record_text.specs.meaning.Listing.{listing_text};
 
 use crate::line::{done, listed, record};
 use graph_types::{Piece, PieceList, Stamp};

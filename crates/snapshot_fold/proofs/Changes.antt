@@ -13,13 +13,13 @@ use Rattle.std.proofs.lemmas.Map.Views.{any-filter_same}
 use Rattle.graph_types.specs.declared.ids.Mode.{Mode}
 use Rattle.graph_types.specs.declared.ids.Mode.TheVariants as mode
 use Rattle.graph_types.specs.declared.member.Member.{Member}
-use Rattle.graph_types.specs.Orders.{piece_cmp_total}
-use Rattle.graph_types.specs.Piece.{PieceValue, member_cmp, mode_cmp, piece_cmp}
+use Rattle.graph_types.specs.meaning.Orders.{piece_cmp_total}
+use Rattle.graph_types.specs.meaning.Piece.{PieceValue, member_cmp, mode_cmp, piece_cmp}
 use Rattle.graph_types.proofs.Members.{member_cmp-IsAntisymmetric, piece_cmp-IsAntisymmetric}
-use Rattle.mining_model.specs.Changes.{same_members, without}
+use Rattle.mining_model.specs.meaning.Changes.{same_members, without}
 use Rattle.mining_model.proofs.Ascending.{IsStrictlySortedBy-map, all-map}
-use Rattle.snapshot_fold.specs.Pieces.{is_among, is_same, with_piece, without_piece}
-use Rattle.snapshot_fold.specs.Records.{pieces_of}
+use Rattle.snapshot_fold.specs.meaning.Pieces.{is_among, is_same, with_piece, without_piece}
+use Rattle.snapshot_fold.specs.meaning.Records.{pieces_of}
 use Rattle.snapshot_fold.proofs.Ascending.{among-insert_key, among-remove_key, is_tie, same_list, sorted-insert_key, sorted-remove_key}
 use Rattle.snapshot_fold.proofs.Each.{all-found, all-kept, all-map-filter}
 use Rattle.snapshot_fold.proofs.Undone.{Ascends}

@@ -4,18 +4,18 @@ use Rattle.std.proofs.Common.{List, [], ◌∷◌, ◌++◌, None, Some, Option,
 use Rattle.std.proofs.Common.{refl, sym, ap, ◌∙◌, subst, arith, append_assoc, append-nil}
 use Rattle.std.specs.Prelude.{IfOk}
 use Rattle.std.proofs.lemmas.Bool.{eqb-false}
-use Rattle.graph_types.specs.Piece.{PieceValue}
-use Rattle.job_io.specs.Ends.{BothKnown}
-use Rattle.job_io.specs.Lines.{lf, HasNoLf, Line, Reading, lines_of, whole_lines_of, line_text}
-use Rattle.job_io.specs.Lines.{GivesLine, StopsInLine}
+use Rattle.graph_types.specs.meaning.Piece.{PieceValue}
+use Rattle.job_io.specs.calls.Ends.{BothKnown}
+use Rattle.job_io.specs.meaning.Lines.{lf, HasNoLf, Line, Reading, lines_of, whole_lines_of, line_text}
+use Rattle.job_io.specs.meaning.Lines.{GivesLine, StopsInLine}
 use Rattle.job_io.proofs.LinesOf.{whole_lines_of-whole, whole_lines_of-none}
 use Rattle.snapshot_fold.specs.declared.folding.FoldStop.{FoldStop}
 use Rattle.snapshot_fold.specs.declared.folding.FoldStop.TheVariants as stop
-use Rattle.snapshot_fold.specs.FoldState.{FoldState, start}
-use Rattle.snapshot_fold.specs.Folding.{one_line, is_reached, at_end, led_on, folded_from, folded}
-use Rattle.snapshot_fold.specs.Folding.{last_done_from, last_done}
-use Rattle.snapshot_fold.specs.Folds.{IsToCome, IsUnended, Folds, AreTold}
-use Rattle.snapshot_fold.specs.Reading.{Gives, LeadsOn, ComesTo, TakesLine}
+use Rattle.snapshot_fold.specs.meaning.FoldState.{FoldState, start}
+use Rattle.snapshot_fold.specs.meaning.Folding.{one_line, is_reached, at_end, led_on, folded_from, folded}
+use Rattle.snapshot_fold.specs.meaning.Folding.{last_done_from, last_done}
+use Rattle.snapshot_fold.specs.calls.Folds.{IsToCome, IsUnended, Folds, AreTold}
+use Rattle.snapshot_fold.specs.calls.Reading.{Gives, LeadsOn, ComesTo, TakesLine}
 use Rattle.snapshot_fold.proofs.Judging.{Moves, stays, rises, one_line-says, line-closes}
 use Rattle.snapshot_fold.proofs.Known.{BothKnown-same, BothKnown-then, BothKnown-map}
 use Rattle.snapshot_fold.proofs.Told.{folded_from-reached, folded_from-cons, rest_from, told}

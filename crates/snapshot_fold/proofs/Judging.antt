@@ -6,20 +6,20 @@ use Rattle.std.specs.Prelude.{nat_lt}
 use Rattle.std.specs.Option.{option_and_then}
 use Rattle.std.proofs.lemmas.Bool.{eqb-true}
 use Rattle.std.proofs.lemmas.Bool.Decides.{nat_tests}
-use Rattle.job_io.specs.Lines.{Line, without_cr, most_line_bytes}
-use Rattle.record_text.specs.Grammar.{record_of}
+use Rattle.job_io.specs.meaning.Lines.{Line, without_cr, most_line_bytes}
+use Rattle.record_text.specs.meaning.Grammar.{record_of}
 use Rattle.record_text.specs.declared.read.RecordLine.{RecordLine}
 use Rattle.record_text.specs.declared.read.RecordLine.TheVariants.{Nothing, Rem, Add, Done}
 use Rattle.snapshot_fold.specs.declared.fault.FoldFault.{FoldFault}
 use Rattle.snapshot_fold.specs.declared.fault.FoldFault.TheVariants.{MixedModes, OutOfOrder, AddsPresent, RemovesAbsent}
 use Rattle.snapshot_fold.specs.declared.folding.FoldStop.{FoldStop}
 use Rattle.snapshot_fold.specs.declared.folding.FoldStop.TheVariants as stop
-use Rattle.snapshot_fold.specs.FoldState.{FoldState}
-use Rattle.snapshot_fold.specs.FoldText.{behind_line, accepted}
-use Rattle.snapshot_fold.specs.Folding.{taken_at, said_at, one_line, done_behind}
-use Rattle.snapshot_fold.specs.Pieces.{is_among}
-use Rattle.snapshot_fold.specs.Taking.{taken, is_of_other_mode, is_open, goes_in_order, comes_in_order}
-use Rattle.snapshot_fold.specs.Taking.{after_rem, after_new, after_done}
+use Rattle.snapshot_fold.specs.meaning.FoldState.{FoldState}
+use Rattle.snapshot_fold.specs.meaning.FoldText.{behind_line, accepted}
+use Rattle.snapshot_fold.specs.meaning.Folding.{taken_at, said_at, one_line, done_behind}
+use Rattle.snapshot_fold.specs.meaning.Pieces.{is_among}
+use Rattle.snapshot_fold.specs.meaning.Taking.{taken, is_of_other_mode, is_open, goes_in_order, comes_in_order}
+use Rattle.snapshot_fold.specs.meaning.Taking.{after_rem, after_new, after_done}
 
 module _ {E : Type 0} (e : E) (behind : FoldState) (r : Result FoldState E) where
   -- what is accepted passed the test for a fault

@@ -1,7 +1,7 @@
 -- What is known of a source's bytes, and its lines.
 use Rattle.std.proofs.Common.{◌≡◌, ◌≢◌, ℕ, true, false, List, [], ◌∷◌, inl, inr, Option, None, Some, refl, ap, ◌∙◌}
-use Rattle.job_io.specs.Ends.{BothKnown}
-use Rattle.job_io.specs.Lines.{Line, lines_of}
+use Rattle.job_io.specs.calls.Ends.{BothKnown}
+use Rattle.job_io.specs.meaning.Lines.{Line, lines_of}
 use Rattle.job_io.proofs.LinesOf.{lf_or_none, lines_of-whole, lines_of-last}
 
 -- what is known of bytes that have not changed

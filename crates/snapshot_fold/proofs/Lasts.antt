@@ -5,10 +5,10 @@ use Rattle.std.specs.List.Sorted.{IsStrictlySortedBy}
 use Rattle.std.specs.Option.{is_none}
 use Rattle.std.specs.declared.cmp.Ordering.TheVariants.{Less}
 use Rattle.std.proofs.lemmas.Bool.{false≢true}
-use Rattle.graph_types.specs.Orders.{piece_cmp_total}
-use Rattle.graph_types.specs.Piece.{PieceValue, piece_cmp}
+use Rattle.graph_types.specs.meaning.Orders.{piece_cmp_total}
+use Rattle.graph_types.specs.meaning.Piece.{PieceValue, piece_cmp}
 use Rattle.record_text.proofs.Sorted.{less}
-use Rattle.snapshot_fold.specs.Pieces.{is_above, last_of}
+use Rattle.snapshot_fold.specs.meaning.Pieces.{is_above, last_of}
 
 pub last_of-push : (pieces : List PieceValue) (p : PieceValue) → last_of (pieces ++ p ∷ []) ≡ Some p
 last_of-push [] p = refl

@@ -8,13 +8,13 @@ use Rattle.std.specs.Cmp.{nat_cmp_total}
 use Rattle.std.specs.Prelude.{Result, Ok, Err}
 use Rattle.std.proofs.lemmas.Bool.{true≢false, false≢true, eqb-false}
 use Rattle.std.proofs.lemmas.List.Elements.{All-take, recursion_from_All}
-use Rattle.graph_types.specs.Graph.{Graph, EdgesHaveEnds, HasEnds, edge_between, empty_graph, ends_at, has_edge, has_vertex, pair_cmp, with_edge, with_vertex, without_edge, without_vertex}
-use Rattle.graph_types.specs.Orders.{pair_cmp_total}
+use Rattle.graph_types.specs.meaning.Graph.{Graph, EdgesHaveEnds, HasEnds, edge_between, empty_graph, ends_at, has_edge, has_vertex, pair_cmp, with_edge, with_vertex, without_edge, without_vertex}
+use Rattle.graph_types.specs.meaning.Orders.{pair_cmp_total}
 use Rattle.graph_types.specs.declared.update.Update.{Update}
 use Rattle.graph_types.specs.declared.update.Update.TheVariants.{AddVertex, RemoveVertex, LabelVertex, AddEdge, RemoveEdge, LabelEdge}
 use Rattle.graph_types.proofs.Graph.{pair_cmp-IsAntisymmetric, EdgesHaveEnds-empty_graph, EdgesHaveEnds-with_vertex, EdgesHaveEnds-with_edge, EdgesHaveEnds-without_edge, EdgesHaveEnds-without_vertex, HasEnds-between}
-use Rattle.mining_model.specs.Step.{Refusal, add_edge, after, after_all, at_edge, edge_exists, is_loop, label_edge, left_by, no_edge, no_vertex, remove_edge, snapshot, vertex_exists}
-use Rattle.snapshot_fold.specs.Records.{AddsShortId}
+use Rattle.mining_model.specs.meaning.Step.{Refusal, add_edge, after, after_all, at_edge, edge_exists, is_loop, label_edge, left_by, no_edge, no_vertex, remove_edge, snapshot, vertex_exists}
+use Rattle.snapshot_fold.specs.meaning.Records.{AddsShortId}
 use Rattle.snapshot_fold.proofs.Ascending.{is_tie}
 
 -- the ids fit 32 bits, and the lower end of each edge stands first

@@ -8,15 +8,15 @@ use Rattle.std.specs.declared.cmp.Ordering.TheVariants.{Less}
 use Rattle.std.proofs.lemmas.Bool.{true≢false, or_cases, or_left, or_right}
 use Rattle.std.proofs.lemmas.List.Folds.{list_any-append}
 use Rattle.graph_types.specs.declared.ids.Mode.{Mode}
-use Rattle.graph_types.specs.Orders.{piece_cmp_total}
-use Rattle.graph_types.specs.Piece.{PieceValue, piece_cmp}
+use Rattle.graph_types.specs.meaning.Orders.{piece_cmp_total}
+use Rattle.graph_types.specs.meaning.Piece.{PieceValue, piece_cmp}
 use Rattle.graph_types.proofs.Members.{piece_cmp-IsAntisymmetric}
 use Rattle.mining_model.proofs.Ascending.{IsStrictlySortedBy-append, all-weaker}
 use Rattle.record_text.proofs.Sorted.{sorted-one}
-use Rattle.snapshot_fold.specs.FoldState.{FoldState}
-use Rattle.snapshot_fold.specs.Pieces.{is_above, is_among, is_same, last_of, with_piece, without_piece}
-use Rattle.snapshot_fold.specs.Taking.{after_done, after_new, after_rem}
-use Rattle.snapshot_fold.specs.Undone.{IsOpen, undone}
+use Rattle.snapshot_fold.specs.meaning.FoldState.{FoldState}
+use Rattle.snapshot_fold.specs.meaning.Pieces.{is_above, is_among, is_same, last_of, with_piece, without_piece}
+use Rattle.snapshot_fold.specs.meaning.Taking.{after_done, after_new, after_rem}
+use Rattle.snapshot_fold.specs.storage.Undone.{IsOpen, undone}
 use Rattle.snapshot_fold.proofs.Ascending.{among-insert_key, among-remove_key, same_item, same_list, sorted-insert_key, sorted-remove_key}
 use Rattle.snapshot_fold.proofs.Lasts.{all_below_next, last_of-push, no_last}
 use Rattle.snapshot_fold.proofs.Undone.{Ascends, among-undone, or_false, undone-ascends}

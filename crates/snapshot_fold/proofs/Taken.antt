@@ -3,18 +3,18 @@ use Rattle.std.proofs.Common.{◌≡◌, ◌≢◌, ℕ, suc, ◌+◌, ◌≤◌
 use Rattle.std.proofs.Common.{List, [], ◌∷◌, ◌++◌, Option, Ok, Err}
 use Rattle.std.proofs.Common.{refl, sym, ap, ◌∙◌, subst, arith}
 use Rattle.std.specs.Bool.{OnTrue}
-use Rattle.job_io.specs.Ends.{BothKnown}
-use Rattle.job_io.specs.Lines.{Line, Reading, lines_of, without_cr, FitsLine, GivesLine, GivesEnd}
-use Rattle.job_io.specs.Reading.{Nexts}
+use Rattle.job_io.specs.calls.Ends.{BothKnown}
+use Rattle.job_io.specs.meaning.Lines.{Line, Reading, lines_of, without_cr, FitsLine, GivesLine, GivesEnd}
+use Rattle.job_io.specs.calls.Reading.{Nexts}
 use Rattle.job_io.specs.declared.line_reader.LineFault.{LineFault}
 use Rattle.job_io.specs.declared.line_reader.LineFault.TheVariants as line
 use Rattle.job_io.proofs.LinesOf.{lines_of-unfinished}
-use Rattle.record_text.specs.Grammar.{record_of}
+use Rattle.record_text.specs.meaning.Grammar.{record_of}
 use Rattle.snapshot_fold.specs.declared.folding.FoldStop.{FoldStop}
 use Rattle.snapshot_fold.specs.declared.folding.FoldStop.TheVariants as stop
-use Rattle.snapshot_fold.specs.FoldState.{FoldState}
-use Rattle.snapshot_fold.specs.Folding.{said_at, one_line, at_end, led_on, folded_from}
-use Rattle.snapshot_fold.specs.Reading.{stop_of, IsWhy, ComesTo, TakesLine}
+use Rattle.snapshot_fold.specs.meaning.FoldState.{FoldState}
+use Rattle.snapshot_fold.specs.meaning.Folding.{said_at, one_line, at_end, led_on, folded_from}
+use Rattle.snapshot_fold.specs.calls.Reading.{stop_of, IsWhy, ComesTo, TakesLine}
 use Rattle.snapshot_fold.proofs.Judging.{one_line-short, one_line-long, one_line-many}
 use Rattle.snapshot_fold.proofs.Known.{BothKnown-map, some_line}
 use Rattle.snapshot_fold.proofs.Told.{folded_from-cons, rest_from}

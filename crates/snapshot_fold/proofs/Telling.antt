@@ -11,33 +11,33 @@ use Rattle.std.specs.declared.cmp.Ordering.{Ordering}
 use Rattle.std.specs.declared.cmp.Ordering.TheVariants.{Less, Equal, Greater}
 use Rattle.std.proofs.lemmas.Bool.{and_from, or_from, ne_eqb, eq-eqb, eqb-true, eqb-false}
 use Rattle.std.proofs.lemmas.List.{nil_from_length}
-use Rattle.graph_types.specs.Graph.{empty_graph, pair_cmp}
+use Rattle.graph_types.specs.meaning.Graph.{empty_graph, pair_cmp}
 use Rattle.graph_types.specs.declared.ids.Mode.{Mode}
 use Rattle.graph_types.specs.declared.ids.Mode.TheVariants as mode
 use Rattle.graph_types.specs.declared.member.Member.{Member}
 use Rattle.graph_types.specs.declared.member.Member.TheVariants as member
 use Rattle.graph_types.specs.declared.update.Update.{Update}
-use Rattle.graph_types.specs.Orders.{piece_cmp_total}
-use Rattle.graph_types.specs.Piece.{PieceValue, member_cmp, mode_cmp, most_members, piece_cmp}
-use Rattle.job_io.specs.Lines.{lf, whole_lines_of}
+use Rattle.graph_types.specs.meaning.Orders.{piece_cmp_total}
+use Rattle.graph_types.specs.meaning.Piece.{PieceValue, member_cmp, mode_cmp, most_members, piece_cmp}
+use Rattle.job_io.specs.meaning.Lines.{lf, whole_lines_of}
 use Rattle.job_io.proofs.LinesOf.{whole_lines_of-whole}
-use Rattle.mining_model.specs.Changes.{without}
-use Rattle.mining_model.specs.Embeddings.{Pattern, embeddings, is_embedding, members_of, short_lists}
-use Rattle.mining_model.specs.Step.{snapshot}
-use Rattle.mining_model.specs.Text.{done_text, member_text, record_line, records_text, spaced, step_text, text_at, text_upto}
+use Rattle.mining_model.specs.meaning.Changes.{without}
+use Rattle.mining_model.specs.meaning.Embeddings.{Pattern, embeddings, is_embedding, members_of, short_lists}
+use Rattle.mining_model.specs.meaning.Step.{snapshot}
+use Rattle.record_text.specs.meaning.Text.{done_text, member_text, record_line, records_text, spaced, step_text, text_at, text_upto}
 use Rattle.mining_model.proofs.Ascending.{IsStrictlySortedBy-embeddings, all-weaker}
 use Rattle.record_text.specs.declared.read.RecordLine.{RecordLine}
 use Rattle.record_text.specs.declared.read.RecordLine.TheVariants.{Rem, Add, Done}
-use Rattle.record_text.specs.Grammar.{record_of}
-use Rattle.record_text.specs.Writable.{IsStamp, IsWritable}
+use Rattle.record_text.specs.meaning.Grammar.{record_of}
+use Rattle.record_text.specs.meaning.Writable.{IsStamp, IsWritable}
 use Rattle.record_text.proofs.Pieces.{mode_itself}
 use Rattle.record_text.proofs.Written.{IsWritten, HasNoLf-printed, without_cr-printed, rem_written, new_written, done_written}
 use Rattle.snapshot_fold.specs.declared.fault.FoldFault.TheVariants.{MixedModes, OutOfOrder, AddsPresent, RemovesAbsent}
-use Rattle.snapshot_fold.specs.FoldState.{FoldState, start}
-use Rattle.snapshot_fold.specs.FoldText.{accepted, fold_text, pieces_where_done}
-use Rattle.snapshot_fold.specs.Pieces.{is_above, is_among, is_same, with_piece, without_piece}
-use Rattle.snapshot_fold.specs.Records.{AddsShortId, pieces_of}
-use Rattle.snapshot_fold.specs.Taking.{after_done, after_new, comes_in_order, goes_in_order, after_rem, is_of_other_mode, is_open, taken}
+use Rattle.snapshot_fold.specs.meaning.FoldState.{FoldState, start}
+use Rattle.snapshot_fold.specs.meaning.FoldText.{accepted, fold_text, pieces_where_done}
+use Rattle.snapshot_fold.specs.meaning.Pieces.{is_above, is_among, is_same, with_piece, without_piece}
+use Rattle.snapshot_fold.specs.meaning.Records.{AddsShortId, pieces_of}
+use Rattle.snapshot_fold.specs.meaning.Taking.{after_done, after_new, comes_in_order, goes_in_order, after_rem, is_of_other_mode, is_open, taken}
 use Rattle.snapshot_fold.proofs.Changes.{ascends-pieces_of, ascends-without, among-with, among-without, came-absent, came-ascends, changes, went-ascends, went-there, with_all, without_all}
 use Rattle.snapshot_fold.proofs.Each.{all-both, all-filter}
 use Rattle.snapshot_fold.proofs.Embedded.{piece_of, writable-embeddings}

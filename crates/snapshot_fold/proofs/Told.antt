@@ -5,15 +5,15 @@ use Rattle.std.proofs.Common.{refl, sym, ap, ◌∙◌, subst, arith}
 use Rattle.std.specs.Prelude.{filter}
 use Rattle.std.specs.Option.{option_and_then}
 use Rattle.std.proofs.lemmas.Bool.{cases_eq, ne_eqb, eq-eqb}
-use Rattle.graph_types.specs.Piece.{PieceValue}
-use Rattle.job_io.specs.Lines.{Line, lines_of, whole_lines_of}
+use Rattle.graph_types.specs.meaning.Piece.{PieceValue}
+use Rattle.job_io.specs.meaning.Lines.{Line, lines_of, whole_lines_of}
 use Rattle.snapshot_fold.specs.declared.folding.FoldStop.{FoldStop}
 use Rattle.snapshot_fold.specs.declared.folding.FoldStop.TheVariants as stop
-use Rattle.snapshot_fold.specs.FoldState.{FoldState, start}
-use Rattle.snapshot_fold.specs.FoldText.{behind_line, pieces_where_done, fold_text}
-use Rattle.snapshot_fold.specs.Folding.{one_line, is_reached, at_end, led_on, folded_from, folded}
-use Rattle.snapshot_fold.specs.Folding.{last_done_from, last_done}
-use Rattle.snapshot_fold.specs.Folds.{stamp_folded}
+use Rattle.snapshot_fold.specs.meaning.FoldState.{FoldState, start}
+use Rattle.snapshot_fold.specs.meaning.FoldText.{behind_line, pieces_where_done, fold_text}
+use Rattle.snapshot_fold.specs.meaning.Folding.{one_line, is_reached, at_end, led_on, folded_from, folded}
+use Rattle.snapshot_fold.specs.meaning.Folding.{last_done_from, last_done}
+use Rattle.snapshot_fold.specs.calls.Folds.{stamp_folded}
 use Rattle.snapshot_fold.proofs.Judging.{Moves, stays, rises, SaysRecord, one_line-says, one_line-torn}
 use Rattle.snapshot_fold.proofs.Judging.{behind_line-is, line-closes}
 

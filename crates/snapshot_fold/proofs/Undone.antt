@@ -7,13 +7,13 @@ use Rattle.std.specs.BTreeMap.Comparable.{le_lt_trans}
 use Rattle.std.specs.declared.cmp.Ordering.TheVariants.{Less, Equal, Greater}
 use Rattle.std.proofs.lemmas.Bool.{true≢false, or_left, or_right, or_parts}
 use Rattle.std.proofs.lemmas.List.Folds.{list_any-append}
-use Rattle.graph_types.specs.Orders.{piece_cmp_total}
-use Rattle.graph_types.specs.Piece.{PieceValue, piece_cmp}
+use Rattle.graph_types.specs.meaning.Orders.{piece_cmp_total}
+use Rattle.graph_types.specs.meaning.Piece.{PieceValue, piece_cmp}
 use Rattle.graph_types.proofs.Members.{piece_cmp-IsAntisymmetric}
 use Rattle.mining_model.proofs.Ascending.{IsStrictlySortedBy-append, all-append, all-weaker}
 use Rattle.record_text.proofs.Sorted.{SortedParts, all-append_parts, all-below, sorted-parts}
-use Rattle.snapshot_fold.specs.Pieces.{is_among, is_same}
-use Rattle.snapshot_fold.specs.Undone.{IsOpen, begins_with, beyond, undone, up_to}
+use Rattle.snapshot_fold.specs.meaning.Pieces.{is_among, is_same}
+use Rattle.snapshot_fold.specs.storage.Undone.{IsOpen, begins_with, beyond, undone, up_to}
 use Rattle.snapshot_fold.proofs.Ascending.{absent_below, first_apart, same_item}
 
 abbrev same : (p q : PieceValue) → is_same p q ≡ true → p ≡ q

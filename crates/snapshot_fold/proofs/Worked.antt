@@ -3,11 +3,11 @@ use Rattle.std.proofs.Common.{◌≡◌, ℕ, List, [], ◌∷◌, None, Some, O
 use Rattle.std.specs.Prelude.{codes}
 use Rattle.graph_types.specs.declared.ids.Mode.TheVariants as mode
 use Rattle.graph_types.specs.declared.member.Member.TheVariants as member
-use Rattle.graph_types.specs.Piece.{PieceValue}
-use Rattle.job_io.specs.Lines.{lines_of}
+use Rattle.graph_types.specs.meaning.Piece.{PieceValue}
+use Rattle.job_io.specs.meaning.Lines.{lines_of}
 use Rattle.snapshot_fold.specs.declared.folding.FoldStop.TheVariants as stop
-use Rattle.snapshot_fold.specs.FoldText.{fold_text}
-use Rattle.snapshot_fold.specs.Folding.{folded}
+use Rattle.snapshot_fold.specs.meaning.FoldText.{fold_text}
+use Rattle.snapshot_fold.specs.meaning.Folding.{folded}
 
 triangle : PieceValue
 triangle = record { mode = mode.Vertex; members = member.Vertex 1 ∷ member.Vertex 2 ∷ member.Vertex 3 ∷ [] }

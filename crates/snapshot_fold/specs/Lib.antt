@@ -1,9 +1,3 @@
-pub mod Folding
-pub mod Folds
-pub mod FoldState
-pub mod FoldText
-pub mod Pieces
-pub mod Records
-pub mod Reading
-pub mod Taking
-pub mod Undone
+pub mod meaning
+pub mod calls
+pub mod storage

@@ -1,10 +1,10 @@
 ghost use Rattle.std.specs.Prelude.{◌≡◌, true, false, not, IsTrue, Ok, Err, IfErr, IfOk, OnErr, OnOk, None, if◌then◌else◌};
 ghost use Rattle.std.specs.List.Sorted.{IsStrictlySortedBy};
 ghost use Rattle.std.specs.Option.{is_none};
-ghost use Rattle.graph_types.specs.Piece.{piece_cmp};
-ghost use Rattle.snapshot_fold.specs.FoldState.{start};
-ghost use Rattle.snapshot_fold.specs.Pieces.{is_above, is_among, last_of};
-ghost use Rattle.snapshot_fold.specs.Taking.{IsRefusal, after_new, comes_in_order, goes_in_order, after_rem, is_of_other_mode, is_open, taken};
+ghost use Rattle.graph_types.specs.meaning.Piece.{piece_cmp};
+ghost use Rattle.snapshot_fold.specs.meaning.FoldState.{start};
+ghost use Rattle.snapshot_fold.specs.meaning.Pieces.{is_above, is_among, last_of};
+ghost use Rattle.snapshot_fold.specs.meaning.Taking.{IsRefusal, after_new, comes_in_order, goes_in_order, after_rem, is_of_other_mode, is_open, taken};
 ghost use Rattle.snapshot_fold.specs.declared.fault.FoldFault.TheVariants.{AddsPresent, RemovesAbsent};
 ghost use Rattle.record_text.specs.declared.read.RecordLine.TheVariants.{Rem, Add, Done};
 
@@ -29,9 +29,9 @@ pub struct Fold {
 }
 
 impl Model for Fold {
-    ghost use Rattle.snapshot_fold.specs.FoldState.{FoldState};
-    ghost use Rattle.snapshot_fold.specs.Pieces.{last_of};
-    ghost use Rattle.snapshot_fold.specs.Undone.{IsOpen, undone};
+    ghost use Rattle.snapshot_fold.specs.meaning.FoldState.{FoldState};
+    ghost use Rattle.snapshot_fold.specs.meaning.Pieces.{last_of};
+    ghost use Rattle.snapshot_fold.specs.storage.Undone.{IsOpen, undone};
 
     ghost Value = { FoldState };
 

@@ -1,12 +1,12 @@
 ghost use Rattle.std.specs.Prelude.{◌≡◌, ◌≢◌, ◌≤◌, ◌^◌, ◌&&◌, [], IsTrue, Some, Ok, Err, IfErr, IfOk, OnOk};
 ghost use Rattle.std.specs.List.Sorted.{IsStrictlySortedBy};
-ghost use Rattle.graph_types.specs.Piece.{piece_cmp};
-ghost use Rattle.job_io.specs.Ends.{Rose};
-ghost use Rattle.job_io.specs.Lines.{without_cr as without_cr_of};
-ghost use Rattle.record_text.specs.Grammar.{record_of};
-ghost use Rattle.snapshot_fold.specs.Folding.{at_end, is_reached as is_reached_at, said_at, stop_at};
-ghost use Rattle.snapshot_fold.specs.Folds.{AreTold, Folds};
-ghost use Rattle.snapshot_fold.specs.Reading.{Gives, IsWhy, TakesLine};
+ghost use Rattle.graph_types.specs.meaning.Piece.{piece_cmp};
+ghost use Rattle.job_io.specs.calls.Ends.{Rose};
+ghost use Rattle.job_io.specs.meaning.Lines.{without_cr as without_cr_of};
+ghost use Rattle.record_text.specs.meaning.Grammar.{record_of};
+ghost use Rattle.snapshot_fold.specs.meaning.Folding.{at_end, is_reached as is_reached_at, said_at, stop_at};
+ghost use Rattle.snapshot_fold.specs.calls.Folds.{AreTold, Folds};
+ghost use Rattle.snapshot_fold.specs.calls.Reading.{Gives, IsWhy, TakesLine};
 
 use crate::{Fold, FoldFault};
 use graph_types::{NoMemory, PieceList, Stamp};
@@ -67,7 +67,7 @@ impl FoldStop {
 
 impl From<LineFault> for FoldStop {
     ghost use Rattle.std.specs.Prelude.{◌≡◌};
-    ghost use Rattle.snapshot_fold.specs.Reading.{stop_of};
+    ghost use Rattle.snapshot_fold.specs.calls.Reading.{stop_of};
 
     ghost from_gives = { λ fault stop. stop ≡ stop_of fault };
 

@@ -2,13 +2,13 @@
 
 ghost use Rattle.std.specs.Prelude.{◌≡◌, ◌≤◌, ◌^◌, ◌<◌, ℕ, List, Some};
 ghost use Rattle.std.specs.List.{All};
-ghost use Rattle.graph_types.specs.Piece.{most_members};
+ghost use Rattle.graph_types.specs.meaning.Piece.{most_members};
 ghost use Rattle.graph_types.specs.declared.update.Update.{Update};
-ghost use Rattle.mining_model.specs.Embeddings.{Pattern, embeddings};
-ghost use Rattle.mining_model.specs.Step.{snapshot};
-ghost use Rattle.mining_model.specs.Text.{text_upto};
-ghost use Rattle.snapshot_fold.specs.FoldText.{fold_text};
-ghost use Rattle.snapshot_fold.specs.Records.{AddsShortId, pieces_of};
+ghost use Rattle.mining_model.specs.meaning.Embeddings.{Pattern, embeddings};
+ghost use Rattle.mining_model.specs.meaning.Step.{snapshot};
+ghost use Rattle.record_text.specs.meaning.Text.{text_upto};
+ghost use Rattle.snapshot_fold.specs.meaning.FoldText.{fold_text};
+ghost use Rattle.snapshot_fold.specs.meaning.Records.{AddsShortId, pieces_of};
 
 /// Folding the records of some updates up to a timestamp gives the embeddings of the snapshot there, each
 /// once and in their order.

@@ -1,6 +1,6 @@
 ghost use Rattle.std.specs.Prelude.{◌≡◌, ◌++◌, true, false, drop, IfOk, OnOk, MatchOption};
-ghost use Rattle.snapshot_fold.specs.Pieces.{is_above as is_above_last, last_of};
-ghost use Rattle.snapshot_fold.specs.Undone.{begins_with, beyond, undone, up_to};
+ghost use Rattle.snapshot_fold.specs.meaning.Pieces.{is_above as is_above_last, last_of};
+ghost use Rattle.snapshot_fold.specs.storage.Undone.{begins_with, beyond, undone, up_to};
 
 use graph_types::{NoMemory, Piece, PieceList};
 use std::alloc::Global;

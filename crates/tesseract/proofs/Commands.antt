@@ -7,8 +7,8 @@ use Rattle.command_words.specs.declared.command.Verb.{Verb}
 use Rattle.command_words.specs.declared.command.Verb.TheVariants.{Mine, Fold}
 use Rattle.command_words.specs.declared.command.Options.{Options}
 use Rattle.command_words.specs.declared.command.Command.{Command}
-use Rattle.command_words.specs.Words.{command_of, options_said, verb_of}
-use Rattle.tesseract.specs.Commands.{fold_command, is_still, mine_command}
+use Rattle.command_words.specs.meaning.Words.{command_of, options_said, verb_of}
+use Rattle.tesseract.specs.meaning.Commands.{fold_command, is_still, mine_command}
 
 -- a command with options that were given
 of_verb : (verb : Verb) (options : Option Options) (c : Command) →

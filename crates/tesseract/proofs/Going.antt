@@ -6,21 +6,21 @@ use Rattle.std.proofs.Common.{append-nil}
 use Rattle.std.specs.Prelude.{IsTrue}
 use Rattle.std.specs.Io.KnownBytes.{Appends}
 use Rattle.std.proofs.Math.Seq.{take-append_seam}
-use Rattle.job_io.specs.Ends.{BothKnown, AppendsFront, PassesOn}
+use Rattle.job_io.specs.calls.Ends.{BothKnown, AppendsFront, PassesOn}
 use Rattle.job_io.proofs.Gathering.{Appends-then, PassesOn-start, PassesOn-then, AppendsFront-then}
 use Rattle.job_io.proofs.Gathering.{AppendsFront-more}
-use Rattle.job_io.specs.Lines.{lf, HasNoLf, Line, Reading, lines_of, whole_lines_of, line_text}
-use Rattle.job_io.specs.Lines.{GivesLine, GivesEnd, StopsInLine}
+use Rattle.job_io.specs.meaning.Lines.{lf, HasNoLf, Line, Reading, lines_of, whole_lines_of, line_text}
+use Rattle.job_io.specs.meaning.Lines.{GivesLine, GivesEnd, StopsInLine}
 use Rattle.job_io.proofs.LinesOf.{whole_lines_of-whole, whole_lines_of-none, lines_of-unfinished}
 use Rattle.tesseract.specs.declared.status.Status.{Status}
 use Rattle.tesseract.specs.declared.status.Status.TheVariants as status
-use Rattle.tesseract.specs.Job.{Stage, heading, streaming, first_stage, accepted, judged, ended, judge, verdict}
-use Rattle.tesseract.specs.Job.{text_of, end_of}
-use Rattle.tesseract.specs.Progress.{text_behind, Reached}
-use Rattle.tesseract.specs.Run.{IsJob, IsFrontOfJob, WritesFront, Mines}
-use Rattle.tesseract.specs.Running.{Running, AtLine, WholeSoFar, IsBehindLast, EndsClean}
-use Rattle.tesseract.specs.Running.{EndsRefused, Ends}
-use Rattle.tesseract.specs.Running.{IfUnread, IsFrontOfText, Ended, IsEnd}
+use Rattle.tesseract.specs.meaning.Job.{Stage, heading, streaming, first_stage, accepted, judged, ended, judge, verdict}
+use Rattle.tesseract.specs.meaning.Job.{text_of, end_of}
+use Rattle.tesseract.specs.calls.Progress.{text_behind, Reached}
+use Rattle.tesseract.specs.calls.Run.{IsJob, IsFrontOfJob, WritesFront, Mines}
+use Rattle.tesseract.specs.calls.Running.{Running, AtLine, WholeSoFar, IsBehindLast, EndsClean}
+use Rattle.tesseract.specs.calls.Running.{EndsRefused, Ends}
+use Rattle.tesseract.specs.calls.Running.{IfUnread, IsFrontOfText, Ended, IsEnd}
 use Rattle.tesseract.proofs.Leading.{LeadsOn, Belongs}
 use Rattle.tesseract.proofs.Reaching.{IsStop, judged-stop, Reached-start, Reached-moved}
 use Rattle.tesseract.proofs.Reaching.{Reached-accepted, Reached-refused_text, Reached-refused_end}

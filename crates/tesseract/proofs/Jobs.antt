@@ -5,38 +5,38 @@ use Rattle.std.specs.Option.{IfSome, option_map}
 use Rattle.std.specs.Result.{IfOk}
 use Rattle.std.proofs.lemmas.Bool.{and_parts, cond_both, leb-true, ltb-true, ltb-false}
 use Rattle.std.proofs.lemmas.List.Elements.{All-cons, All-nil}
-use Rattle.graph_types.specs.Graph.{Graph}
-use Rattle.graph_types.specs.Piece.{most_members}
+use Rattle.graph_types.specs.meaning.Graph.{Graph}
+use Rattle.graph_types.specs.meaning.Piece.{most_members}
 use Rattle.graph_types.specs.declared.update.Update.{Update}
 use Rattle.graph_types.specs.declared.update.Update.TheVariants.{AddVertex, RemoveVertex, LabelVertex, AddEdge, RemoveEdge, LabelEdge}
-use Rattle.job_io.specs.Fields.{words_of, id_of, is_number, value_after, is_label_word, is_nothing_line, number_of}
-use Rattle.job_io.specs.Lines.{Line, without_cr, most_line_bytes}
-use Rattle.mining_model.specs.Embeddings.{Pattern, embeddings}
-use Rattle.mining_model.specs.Step.{Refusal, step, snapshot}
-use Rattle.mining_model.specs.Text.{text_upto}
-use Rattle.update_reader.specs.Names.{Names, interned, no_name}
-use Rattle.update_reader.specs.Grammar.{Said, nothing, commit, update, too_many_labels, bad_line, said, said_by, said_labelled}
-use Rattle.update_reader.specs.Grammar.{Form, commit_form, unlabelled, labelled, no_form, form_with, form_behind, form_of}
-use Rattle.update_reader.specs.Grammar.{ids_of, keyword_of, unlabelled_form, labelled_form, vertex_form, edge_form}
+use Rattle.line_fields.specs.meaning.Fields.{words_of, id_of, is_number, value_after, is_label_word, is_nothing_line, number_of}
+use Rattle.job_io.specs.meaning.Lines.{Line, without_cr, most_line_bytes}
+use Rattle.mining_model.specs.meaning.Embeddings.{Pattern, embeddings}
+use Rattle.mining_model.specs.meaning.Step.{Refusal, step, snapshot}
+use Rattle.record_text.specs.meaning.Text.{text_upto}
+use Rattle.line_fields.specs.meaning.Names.{Names, interned, no_name}
+use Rattle.update_reader.specs.meaning.Grammar.{Said, nothing, commit, update, too_many_labels, bad_line, said, said_by, said_labelled}
+use Rattle.update_reader.specs.meaning.Grammar.{Form, commit_form, unlabelled, labelled, no_form, form_with, form_behind, form_of}
+use Rattle.update_reader.specs.meaning.Grammar.{ids_of, keyword_of, unlabelled_form, labelled_form, vertex_form, edge_form}
 use Rattle.update_reader.specs.declared.keyword.Keyword.{Keyword}
 use Rattle.update_reader.specs.declared.keyword.Keyword.TheVariants as keyword
-use Rattle.snapshot_fold.specs.FoldText.{fold_text}
-use Rattle.snapshot_fold.specs.Records.{AddsShortId, pieces_of}
+use Rattle.snapshot_fold.specs.meaning.FoldText.{fold_text}
+use Rattle.snapshot_fold.specs.meaning.Records.{AddsShortId, pieces_of}
 use Rattle.snapshot_fold.proofs.Telling.{fold_text-upto}
-use Rattle.program_grammar.specs.Grammar.{◌>>=◌}
-use Rattle.program_grammar.specs.Header.{header_said, mode_of, size_of, size_said, size_in_range, in_range, value_of, filter_of}
-use Rattle.program_grammar.specs.Header.{condition_behind, is_word}
-use Rattle.program_grammar.specs.Header.{said_by as header_said_by}
-use Rattle.program_grammar.specs.Sizes.{size_in}
+use Rattle.program_grammar.specs.meaning.Grammar.{◌>>=◌}
+use Rattle.program_grammar.specs.meaning.Header.{header_said, mode_of, size_of, size_said, size_in_range, in_range, value_of, filter_of}
+use Rattle.program_grammar.specs.meaning.Header.{condition_behind, is_word}
+use Rattle.program_grammar.specs.meaning.Header.{said_by as header_said_by}
+use Rattle.program_grammar.specs.meaning.Sizes.{size_in}
 use Rattle.program_grammar.specs.declared.fault.Refusal.{Refusal as HeaderRefusal}
 use Rattle.program_grammar.specs.declared.header.HeaderReader.{HeaderReader}
 use Rattle.program_grammar.specs.declared.header.HeaderReader.TheVariants as header
 use Rattle.program_grammar.specs.declared.header.HeaderStep.{HeaderStep}
 use Rattle.program_grammar.specs.declared.header.HeaderStep.TheVariants.{More, Ready}
 use Rattle.tesseract.specs.declared.status.Status.{Status}
-use Rattle.tesseract.specs.Job.{Stage, heading, streaming, first_stage, Judged, refused, moved, accepted}
-use Rattle.tesseract.specs.Job.{judged_header, judged_step, judged_said, judged_line, judged}
-use Rattle.tesseract.specs.Job.{Verdict, ended, led_on, judge, verdict, text_of, text_under}
+use Rattle.tesseract.specs.meaning.Job.{Stage, heading, streaming, first_stage, Judged, refused, moved, accepted}
+use Rattle.tesseract.specs.meaning.Job.{judged_header, judged_step, judged_said, judged_line, judged}
+use Rattle.tesseract.specs.meaning.Job.{Verdict, ended, led_on, judge, verdict, text_of, text_under}
 use Rattle.tesseract.proofs.Making.{embeddings-empty}
 
 -- ---- the ids of vertices that are added

@@ -1,12 +1,12 @@
 -- What a line leads to.
 use Rattle.std.proofs.Common.{◌≡◌, ℕ, suc, ◌⊎◌, List, [], ◌∷◌}
-use Rattle.graph_types.specs.Graph.{Graph}
+use Rattle.graph_types.specs.meaning.Graph.{Graph}
 use Rattle.graph_types.specs.declared.update.Update.{Update}
-use Rattle.job_io.specs.Lines.{Line, lines_of}
-use Rattle.mining_model.specs.Embeddings.{Pattern}
-use Rattle.mining_model.specs.Text.{step_text}
-use Rattle.update_reader.specs.Names.{Names}
-use Rattle.tesseract.specs.Job.{Stage, heading, streaming, moved, accepted, judged}
+use Rattle.job_io.specs.meaning.Lines.{Line, lines_of}
+use Rattle.mining_model.specs.meaning.Embeddings.{Pattern}
+use Rattle.record_text.specs.meaning.Text.{step_text}
+use Rattle.line_fields.specs.meaning.Names.{Names}
+use Rattle.tesseract.specs.meaning.Job.{Stage, heading, streaming, moved, accepted, judged}
 
 -- Line n of the stream is an update that is accepted; `text` is its timestamp's.
 pub record Accepts (most n : ℕ) (stage : Stage) (t : ℕ) (bytes : List ℕ)

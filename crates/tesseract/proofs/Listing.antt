@@ -1,6 +1,6 @@
 -- A page that is filled and then sent.
 use Rattle.std.proofs.Common.{◌≡◌, ℕ, List, [], ◌++◌, Option, Result, Ok, subst}
-use Rattle.job_io.specs.Ends.{Gathers, Puts}
+use Rattle.job_io.specs.calls.Ends.{Gathers, Puts}
 use Rattle.job_io.proofs.Gathering.{Gathers-Puts}
 
 -- a text that went through an empty page is put

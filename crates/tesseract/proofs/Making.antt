@@ -5,19 +5,19 @@ use Rattle.std.specs.Prelude.{Ok}
 use Rattle.std.specs.FinMap as finite
 use Rattle.std.specs.Ordering.{nat_cmp}
 use Rattle.std.specs.declared.cmp.Ordering.{Ordering}
-use Rattle.graph_types.specs.Graph.{Graph, empty_graph, pair_cmp}
+use Rattle.graph_types.specs.meaning.Graph.{Graph, empty_graph, pair_cmp}
 use Rattle.graph_types.specs.declared.ids.Mode.{Mode}
 use Rattle.graph_types.specs.declared.ids.Mode.TheVariants as mode
-use Rattle.graph_types.specs.Piece.{PieceValue, members_of_all}
+use Rattle.graph_types.specs.meaning.Piece.{PieceValue, members_of_all}
 use Rattle.graph_types.specs.declared.member.Member.TheVariants as member
 use Rattle.graph_types.specs.declared.update.Update.{Update}
-use Rattle.mining_model.specs.Step.{step}
-use Rattle.mining_model.specs.Embeddings.{Pattern, embeddings, members_of, short_lists, is_embedding}
-use Rattle.mining_model.specs.Changes.{without}
-use Rattle.filter_polarity.specs.Program.{ProgramValue}
-use Rattle.cond_eval.specs.Patterns.{pattern_of}
-use Rattle.tesseract.specs.Mining.{Mining}
-use Rattle.tesseract.specs.Miner.{IsMade}
+use Rattle.mining_model.specs.meaning.Step.{step}
+use Rattle.mining_model.specs.meaning.Embeddings.{Pattern, embeddings, members_of, short_lists, is_embedding}
+use Rattle.mining_model.specs.meaning.Changes.{without}
+use Rattle.filter_polarity.specs.meaning.Program.{ProgramValue}
+use Rattle.cond_eval.specs.meaning.Patterns.{pattern_of}
+use Rattle.tesseract.specs.storage.Mining.{Mining}
+use Rattle.tesseract.specs.calls.Miner.{IsMade}
 
 no_items : {A : Type 0} (xs : List A) → length xs ≡ 0 → xs ≡ []
 no_items [] none = refl

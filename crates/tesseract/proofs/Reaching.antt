@@ -2,27 +2,27 @@
 use Rattle.std.proofs.Common.{◌≡◌, ℕ, suc, Bool, true, false, List, [], ◌∷◌, ◌++◌, length, cond}
 use Rattle.std.proofs.Common.{Result, Ok, Err, nat_lt, Option, None, Some, refl, sym, ap, ◌∙◌}
 use Rattle.std.proofs.Common.{subst, append_assoc, append-nil}
-use Rattle.graph_types.specs.Graph.{Graph, empty_graph}
+use Rattle.graph_types.specs.meaning.Graph.{Graph, empty_graph}
 use Rattle.graph_types.specs.declared.update.Update.{Update}
-use Rattle.job_io.specs.Lines.{Line, without_cr, most_line_bytes}
-use Rattle.update_reader.specs.Names.{Names}
-use Rattle.update_reader.specs.Grammar.{Said, nothing, commit, update, too_many_labels, bad_line, said}
-use Rattle.mining_model.specs.Step.{Refusal, step, left_by, after}
-use Rattle.mining_model.specs.Embeddings.{Pattern}
-use Rattle.mining_model.specs.Text.{step_text, text_from}
-use Rattle.mining_model.proofs.Texts.{text_from-start}
+use Rattle.job_io.specs.meaning.Lines.{Line, without_cr, most_line_bytes}
+use Rattle.line_fields.specs.meaning.Names.{Names}
+use Rattle.update_reader.specs.meaning.Grammar.{Said, nothing, commit, update, too_many_labels, bad_line, said}
+use Rattle.mining_model.specs.meaning.Step.{Refusal, step, left_by, after}
+use Rattle.mining_model.specs.meaning.Embeddings.{Pattern}
+use Rattle.record_text.specs.meaning.Text.{step_text, text_from}
+use Rattle.record_text.proofs.Texts.{text_from-start}
 use Rattle.program_grammar.specs.declared.fault.Refusal.{Refusal as HeaderRefusal}
 use Rattle.program_grammar.specs.declared.header.HeaderReader.{HeaderReader}
 use Rattle.program_grammar.specs.declared.header.HeaderStep.{HeaderStep}
 use Rattle.program_grammar.specs.declared.header.HeaderStep.TheVariants.{More, Ready}
-use Rattle.program_grammar.specs.Header.{header_said}
+use Rattle.program_grammar.specs.meaning.Header.{header_said}
 use Rattle.tesseract.specs.declared.status.Status.{Status}
 use Rattle.tesseract.specs.declared.status.Status.TheVariants as status
-use Rattle.tesseract.specs.Job.{Stage, heading, streaming, first_stage, Judged, refused, moved, accepted}
-use Rattle.tesseract.specs.Job.{judged_header, judged_step, judged_said, judged_line, judged}
-use Rattle.tesseract.specs.Job.{Verdict, ended, led_on, judge, verdict, text_of}
-use Rattle.tesseract.specs.Job.{text_under, end_of}
-use Rattle.tesseract.specs.Progress.{text_behind, Reached}
+use Rattle.tesseract.specs.meaning.Job.{Stage, heading, streaming, first_stage, Judged, refused, moved, accepted}
+use Rattle.tesseract.specs.meaning.Job.{judged_header, judged_step, judged_said, judged_line, judged}
+use Rattle.tesseract.specs.meaning.Job.{Verdict, ended, led_on, judge, verdict, text_of}
+use Rattle.tesseract.specs.meaning.Job.{text_under, end_of}
+use Rattle.tesseract.specs.calls.Progress.{text_behind, Reached}
 use Rattle.tesseract.proofs.Leading.{IsStampOf}
 
 -- what a refused line ends a job with

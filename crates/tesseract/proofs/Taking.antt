@@ -3,16 +3,16 @@ use Rattle.std.proofs.Common.{◌≡◌, ℕ, suc, ◌<◌, ◌≤◌, true, fal
 use Rattle.std.proofs.Common.{None, Some, Ok, Err, refl, sym, ap, ◌∙◌, arith}
 use Rattle.std.specs.Prelude.{nat_lt}
 use Rattle.std.proofs.lemmas.Bool.Decides.{nat_tests}
-use Rattle.graph_types.specs.Piece.{members_of_all}
+use Rattle.graph_types.specs.meaning.Piece.{members_of_all}
 use Rattle.graph_types.specs.declared.update.Update.{Update}
-use Rattle.job_io.specs.Lines.{most_line_bytes}
-use Rattle.mining_model.specs.Step.{step}
-use Rattle.cond_eval.specs.Patterns.{pattern_of}
-use Rattle.mining_model.specs.Changes.{gone}
-use Rattle.mining_model.specs.Text.{delta_text, done_text}
-use Rattle.update_reader.specs.Names.{Names}
-use Rattle.update_reader.specs.Grammar.{update, said}
-use Rattle.update_rules.specs.Steps.{IsReason}
+use Rattle.job_io.specs.meaning.Lines.{most_line_bytes}
+use Rattle.mining_model.specs.meaning.Step.{step}
+use Rattle.cond_eval.specs.meaning.Patterns.{pattern_of}
+use Rattle.mining_model.specs.meaning.Changes.{gone}
+use Rattle.record_text.specs.meaning.Text.{delta_text, done_text}
+use Rattle.line_fields.specs.meaning.Names.{Names}
+use Rattle.update_reader.specs.meaning.Grammar.{update, said}
+use Rattle.update_rules.specs.calls.Steps.{IsReason}
 use Rattle.update_rules.specs.declared.StepFault.{StepFault}
 use Rattle.tesseract.specs.declared.miner.Changes.{Changes}
 use Rattle.tesseract.specs.declared.job.Job.{Job}
@@ -22,11 +22,11 @@ use Rattle.tesseract.specs.declared.job.Stop.TheVariants as stop
 use Rattle.tesseract.specs.declared.status.Status.{Status}
 use Rattle.tesseract.specs.declared.status.Status.TheVariants as status
 use Rattle.tesseract.specs.declared.status.LimitKind.TheVariants as limit
-use Rattle.tesseract.specs.Mining.{Mining}
-use Rattle.tesseract.specs.Miner.{IsMade}
-use Rattle.tesseract.specs.Job.{Stage, streaming, refused, judged_step, judged_said}
-use Rattle.tesseract.specs.Job.{judged_line, judged}
-use Rattle.tesseract.specs.Reading.{stage_of, stamp_of, StopsFor, IsTaken, TakesUpdate, Takes}
+use Rattle.tesseract.specs.storage.Mining.{Mining}
+use Rattle.tesseract.specs.calls.Miner.{IsMade}
+use Rattle.tesseract.specs.meaning.Job.{Stage, streaming, refused, judged_step, judged_said}
+use Rattle.tesseract.specs.meaning.Job.{judged_line, judged}
+use Rattle.tesseract.specs.calls.Reading.{stage_of, stamp_of, StopsFor, IsTaken, TakesUpdate, Takes}
 use Rattle.tesseract.proofs.Leading.{Accepts, Moves}
 
 -- an update that was read and made

@@ -2,11 +2,11 @@
 use Rattle.std.proofs.Common.{◌≡◌, ◌≢◌, ℕ, suc, ◌+◌, ◌≤◌, inl, inr, IsTrue, true, false, List, []}
 use Rattle.std.proofs.Common.{◌∷◌, ◌++◌, Option, None, Some, Result, Ok, Err, refl, sym, ap, ◌∙◌}
 use Rattle.std.proofs.Common.{subst, append-nil, arith}
-use Rattle.job_io.specs.Ends.{BothKnown, AppendsFront, PassesOn, Puts, Gathers}
+use Rattle.job_io.specs.calls.Ends.{BothKnown, AppendsFront, PassesOn, Puts, Gathers}
 use Rattle.job_io.proofs.Gathering.{PassesOn-start, PassesOn-then, Gathers-put}
-use Rattle.job_io.specs.Lines.{Line, Reading, lines_of, GivesLine, GivesEnd, StopsInLine}
-use Rattle.job_io.specs.Lines.{LongLineFollows}
-use Rattle.job_io.specs.Reading.{Nexts}
+use Rattle.job_io.specs.meaning.Lines.{Line, Reading, lines_of, GivesLine, GivesEnd, StopsInLine}
+use Rattle.job_io.specs.meaning.Lines.{LongLineFollows}
+use Rattle.job_io.specs.calls.Reading.{Nexts}
 use Rattle.job_io.specs.declared.line_reader.LineFault.TheVariants as line
 use Rattle.job_io.proofs.LinesOf.{lf_or_none, lines_of-whole, lines_of-last}
 use Rattle.tesseract.specs.declared.status.Status.{Status}
@@ -16,12 +16,12 @@ use Rattle.tesseract.specs.declared.miner.Changes.{Changes}
 use Rattle.tesseract.specs.declared.job.Job.{Job}
 use Rattle.tesseract.specs.declared.job.Stop.{Stop}
 use Rattle.tesseract.specs.declared.job.Stop.TheVariants as stop
-use Rattle.tesseract.specs.Reading.{stage_of, stamp_of, changes_text, Takes}
-use Rattle.tesseract.specs.Run.{WritesFront}
-use Rattle.tesseract.specs.Turning.{Advances}
-use Rattle.tesseract.specs.Job.{Stage, heading, streaming, first_stage, refused, judged_line, judged, ended}
-use Rattle.tesseract.specs.Job.{end_of}
-use Rattle.tesseract.specs.Running.{Running, Ended, Ends, IsEnd}
+use Rattle.tesseract.specs.calls.Reading.{stage_of, stamp_of, changes_text, Takes}
+use Rattle.tesseract.specs.calls.Run.{WritesFront}
+use Rattle.tesseract.specs.calls.Turning.{Advances}
+use Rattle.tesseract.specs.meaning.Job.{Stage, heading, streaming, first_stage, refused, judged_line, judged, ended}
+use Rattle.tesseract.specs.meaning.Job.{end_of}
+use Rattle.tesseract.specs.calls.Running.{Running, Ended, Ends, IsEnd}
 use Rattle.tesseract.proofs.Leading.{LeadsOn, Accepts}
 use Rattle.tesseract.proofs.Reaching.{IsStop, judged-stop}
 use Rattle.tesseract.proofs.Going.{BothKnown-same, BothKnown-map, Running-start, Running-led}

@@ -1,13 +1,3 @@
-pub mod Status
-pub mod HeaderSoFar
-pub mod HeaderLine
-pub mod Mining
-pub mod Miner
-pub mod Job
-pub mod Reading
-pub mod Progress
-pub mod Run
-pub mod Fold
-pub mod Commands
-pub mod Running
-pub mod Turning
+pub mod meaning
+pub mod calls
+pub mod storage

@@ -1,6 +1,6 @@
 ghost use Rattle.std.specs.Prelude.{◌≡◌, ◌≢◌, ◌≤◌, ◌^◌};
-ghost use Rattle.job_io.specs.Ends.{HasCause, Puts, Rose};
-ghost use Rattle.tesseract.specs.Fold.{Folds, pieces_text, stop_status as stop_status_of};
+ghost use Rattle.job_io.specs.calls.Ends.{HasCause, Puts, Rose};
+ghost use Rattle.tesseract.specs.calls.Fold.{Folds, pieces_text, stop_status as stop_status_of};
 
 use crate::status::{InputKind, LimitKind, Status};
 use graph_types::{PieceList, Stamp};

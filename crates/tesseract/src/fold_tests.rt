@@ -13,7 +13,8 @@ use std::alloc::Global;
 use std::sync::Wait;
 use std::test::Fail;
 use std::thread::Threads;
-use update_reader::{Item, Names, read_line};
+use update_reader::{Item, read_line};
+use line_fields::Names;
 use update_rules::step;
 
 /// A header, the lines behind it, and how many of these are updates.

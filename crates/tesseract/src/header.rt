@@ -1,14 +1,14 @@
 ghost use Rattle.std.specs.Prelude.{◌≡◌, IfOk};
-ghost use Rattle.update_reader.specs.Names.{first_names};
-ghost use Rattle.program_grammar.specs.Header.{awaited};
-ghost use Rattle.tesseract.specs.HeaderLine.{HeadsOn};
+ghost use Rattle.line_fields.specs.meaning.Names.{first_names};
+ghost use Rattle.program_grammar.specs.meaning.Header.{awaited};
+ghost use Rattle.tesseract.specs.calls.HeaderLine.{HeadsOn};
 
 use filter_polarity::Program;
 use graph_types::NoMemory;
 use program_grammar::{HeaderReader, HeaderStep, ProgramFault, Word};
 use std::alloc::Global;
 use std::marker::Model;
-use update_reader::Names;
+use line_fields::Names;
 
 /// A header that is being read, and the names of the labels in it. There is always room for those of the
 /// conditions to come, whatever they are.
@@ -20,8 +20,8 @@ pub struct Header {
 
 impl Model for Header {
     ghost use Rattle.program_grammar.specs.contracts.header.HeaderReader as readers;
-    ghost use Rattle.program_grammar.specs.Programs.{RoomFor};
-    ghost use Rattle.tesseract.specs.HeaderSoFar.{HeaderSoFar, header_code};
+    ghost use Rattle.program_grammar.specs.meaning.Programs.{RoomFor};
+    ghost use Rattle.tesseract.specs.storage.HeaderSoFar.{HeaderSoFar, header_code};
 
     ghost Value = { HeaderSoFar };
 

@@ -1,7 +1,7 @@
 ghost use Rattle.std.specs.Prelude.{◌≡◌, ◌<◌, IfOk, None};
-ghost use Rattle.tesseract.specs.Job.{ended, end_of, first_stage};
-ghost use Rattle.tesseract.specs.Reading.{header_stop, stage_of, stamp_of, StopsFor};
-ghost use Rattle.tesseract.specs.Reading.{Takes, TakesHeader, TakesUpdate};
+ghost use Rattle.tesseract.specs.meaning.Job.{ended, end_of, first_stage};
+ghost use Rattle.tesseract.specs.calls.Reading.{header_stop, stage_of, stamp_of, StopsFor};
+ghost use Rattle.tesseract.specs.calls.Reading.{Takes, TakesHeader, TakesUpdate};
 
 use crate::header::{Header, HeaderTurn};
 use crate::miner::{Changes, Miner};
@@ -10,7 +10,8 @@ use graph_types::{NoMemory, Stamp};
 use job_io::without_cr;
 use program_grammar::ProgramFault;
 use std::alloc::Global;
-use update_reader::{Item, Names, UpdateFault, read_line};
+use update_reader::{Item, UpdateFault, read_line};
+use line_fields::Names;
 use update_rules::StepFault;
 
 /// A job that is being read: its header, and then its updates.

@@ -1,12 +1,12 @@
 //! The law of the records over whole jobs: a contract of a function that does nothing.
 
 ghost use Rattle.std.specs.Prelude.{◌≡◌, ◌≤◌, ◌^◌, ℕ, List, length, Some};
-ghost use Rattle.job_io.specs.Lines.{Line};
-ghost use Rattle.mining_model.specs.Embeddings.{Pattern, embeddings};
-ghost use Rattle.mining_model.specs.Step.{snapshot};
-ghost use Rattle.snapshot_fold.specs.FoldText.{fold_text};
-ghost use Rattle.snapshot_fold.specs.Records.{pieces_of};
-ghost use Rattle.tesseract.specs.Job.{verdict, text_of};
+ghost use Rattle.job_io.specs.meaning.Lines.{Line};
+ghost use Rattle.mining_model.specs.meaning.Embeddings.{Pattern, embeddings};
+ghost use Rattle.mining_model.specs.meaning.Step.{snapshot};
+ghost use Rattle.snapshot_fold.specs.meaning.FoldText.{fold_text};
+ghost use Rattle.snapshot_fold.specs.meaning.Records.{pieces_of};
+ghost use Rattle.tesseract.specs.meaning.Job.{verdict, text_of};
 
 /// Folding what is written for a job up to any timestamp of it gives the embeddings of the snapshot there,
 /// each once and in their order.

@@ -1,9 +1,9 @@
 ghost use Rattle.std.specs.Prelude.{◌≡◌, ◌≢◌, ◌≤◌, ◌^◌, ℕ, [], List, Option, Some, IsTrue, Ok, OnErr};
-ghost use Rattle.job_io.specs.Ends.{Gathers, HasCause, Rose};
-ghost use Rattle.tesseract.specs.Reading.{changes_text, stage_of, stamp_of};
-ghost use Rattle.tesseract.specs.Run.{Mines};
-ghost use Rattle.tesseract.specs.Running.{Running};
-ghost use Rattle.tesseract.specs.Turning.{Advances, GoesOn, Turns, Loops};
+ghost use Rattle.job_io.specs.calls.Ends.{Gathers, HasCause, Rose};
+ghost use Rattle.tesseract.specs.calls.Reading.{changes_text, stage_of, stamp_of};
+ghost use Rattle.tesseract.specs.calls.Run.{Mines};
+ghost use Rattle.tesseract.specs.calls.Running.{Running};
+ghost use Rattle.tesseract.specs.calls.Turning.{Advances, GoesOn, Turns, Loops};
 
 use crate::job::{Job, Stop};
 use crate::miner::Changes;

@@ -1,6 +1,6 @@
 ghost use Rattle.std.specs.Prelude.{◌≡◌, ◌+◌, ◌<◌, ◌^◌};
-ghost use Rattle.graph_types.specs.Graph.{empty_graph};
-ghost use Rattle.tesseract.specs.Miner.{Makes};
+ghost use Rattle.graph_types.specs.meaning.Graph.{empty_graph};
+ghost use Rattle.tesseract.specs.calls.Miner.{Makes};
 
 use filter_polarity::Program;
 use graph_types::{PieceList, Snapshot, Stamp, Update};
@@ -21,7 +21,7 @@ pub struct Miner {
 
 impl Model for Miner {
     ghost use Rattle.filter_polarity.specs.contracts.program.Program as programs;
-    ghost use Rattle.tesseract.specs.Mining.{Mining, mining_code, IsMining};
+    ghost use Rattle.tesseract.specs.storage.Mining.{Mining, mining_code, IsMining};
 
     ghost Value = { Mining };
 

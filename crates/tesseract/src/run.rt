@@ -1,10 +1,10 @@
 ghost use Rattle.std.specs.Prelude.{◌≡◌, ◌↔◌, ℕ, IsTrue, None, Option, Some, map, string_bytes};
-ghost use Rattle.command_words.specs.Words.{command_of};
-ghost use Rattle.job_io.specs.Ends.{Rose};
-ghost use Rattle.tesseract.specs.Commands.{fold_command, is_still as is_still_of, mine_command};
-ghost use Rattle.tesseract.specs.Fold.{Folds};
-ghost use Rattle.tesseract.specs.Run.{Mines, Tells};
-ghost use Rattle.tesseract.specs.Status.{line_of};
+ghost use Rattle.command_words.specs.meaning.Words.{command_of};
+ghost use Rattle.job_io.specs.calls.Ends.{Rose};
+ghost use Rattle.tesseract.specs.meaning.Commands.{fold_command, is_still as is_still_of, mine_command};
+ghost use Rattle.tesseract.specs.calls.Fold.{Folds};
+ghost use Rattle.tesseract.specs.calls.Run.{Mines, Tells};
+ghost use Rattle.tesseract.specs.meaning.Status.{line_of};
 
 use crate::fold::fold;
 use crate::mine::mine;

@@ -1,5 +1,5 @@
 ghost use Rattle.std.specs.Prelude.{◌≡◌, ◌≤◌, ◌++◌, length, codes, decimal};
-ghost use Rattle.tesseract.specs.Status.{word_text, program_kind, input_kind, limit_kind};
+ghost use Rattle.tesseract.specs.meaning.Status.{word_text, program_kind, input_kind, limit_kind};
 
 use graph_types::VertexId;
 use job_io::ShortLine;
@@ -82,7 +82,7 @@ pub enum LimitKind {
 }
 
 impl Status {
-    ghost use Rattle.tesseract.specs.Status.{number_of, line_of};
+    ghost use Rattle.tesseract.specs.meaning.Status.{number_of, line_of};
 
     /// The exit status of the program.
     pub fn number(&self) -> u8

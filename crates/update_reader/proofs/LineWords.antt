@@ -1,12 +1,12 @@
 -- Lines of two to four words, by their words.
 use Rattle.std.proofs.Common.{◌≡◌, ℕ, false, cond, List, [], ◌∷◌, length, slice_get, Some, Result, sym, ap, subst, ◌∙◌, arith}
-use Rattle.job_io.specs.Fields.{words_of, is_nothing_line}
+use Rattle.line_fields.specs.meaning.Fields.{words_of, is_nothing_line}
 use Rattle.update_reader.specs.declared.Item.{Item}
 use Rattle.update_reader.specs.declared.UpdateFault.{UpdateFault}
 use Rattle.update_reader.specs.declared.keyword.Keyword.{Keyword}
-use Rattle.update_reader.specs.Names.{Names}
-use Rattle.update_reader.specs.Grammar.{nothing, form_of, form_with, form_behind, keyword_of, said_by}
-use Rattle.update_reader.specs.Reading.{Gives, Reads, ReadsForm}
+use Rattle.line_fields.specs.meaning.Names.{Names}
+use Rattle.update_reader.specs.meaning.Grammar.{nothing, form_of, form_with, form_behind, keyword_of, said_by}
+use Rattle.update_reader.specs.calls.Reading.{Gives, Reads, ReadsForm}
 
 pub three_words : (ws : List (List ℕ)) (a b c : List ℕ) → length ws ≡ 3 → Some a ≡ slice_get ws 0 → Some b ≡ slice_get ws 1 → Some c ≡ slice_get ws 2 → ws ≡ a ∷ b ∷ c ∷ []
 three_words [] a b c n f g h = absurd (omega arith)

@@ -1,4 +1,2 @@
-pub mod Names
-pub mod Interning
-pub mod Grammar
-pub mod Reading
+pub mod meaning
+pub mod calls

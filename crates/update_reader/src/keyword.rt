@@ -1,5 +1,5 @@
 ghost use Rattle.std.specs.Prelude.{◌≡◌};
-ghost use Rattle.update_reader.specs.Grammar.{keyword_of};
+ghost use Rattle.update_reader.specs.meaning.Grammar.{keyword_of};
 
 /// The first word of a line that says an update or `commit`.
 #[derive(Clone, Copy, Debug, PartialEq, Eq)]

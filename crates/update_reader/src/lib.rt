@@ -1,21 +1,19 @@
-//! Update lines: what each says, and the numbers of the labels that they name.
+//! Update lines: what each says.
 #![tactic(auto)]
 
 ghost use Rattle.std.specs.Prelude.{◌≡◌, ◌<◌, ℕ, List, [], ◌∷◌, Some, length, slice_get};
-ghost use Rattle.job_io.specs.Fields.{words_of};
-ghost use Rattle.update_reader.specs.Grammar.{form_with, ids_of};
-ghost use Rattle.update_reader.specs.Reading.{Reads, ReadsForm, ReadsLabel, ReadsVertex, ReadsEdge};
+ghost use Rattle.line_fields.specs.meaning.Fields.{words_of};
+ghost use Rattle.update_reader.specs.meaning.Grammar.{form_with, ids_of};
+ghost use Rattle.update_reader.specs.calls.Reading.{Reads, ReadsForm, ReadsLabel, ReadsVertex, ReadsEdge};
 
 mod keyword;
-mod names;
 #[cfg(test)]
 mod tests;
 
 use graph_types::{LabelId, Update, VertexId};
-use job_io::{is_label, is_nothing, read_id, word, words};
+use line_fields::{NO_NAME, is_label, is_nothing, read_id, word, words};
 use keyword::{Keyword, read_keyword};
-use names::NO_NAME;
-pub use names::{NameFault, Names};
+pub use line_fields::{NameFault, Names};
 use std::alloc::Global;
 
 /// What a line says.

@@ -1,6 +1,6 @@
 use crate::{Item, NameFault, Names, UpdateFault, read_line};
 use graph_types::{LabelId, Update, VertexId};
-use job_io::is_label;
+use line_fields::is_label;
 use std::test::Fail;
 
 const LABEL_OF_32: &[u8] = b"abcdefghijklmnopqrstuvwxyz-_0123";

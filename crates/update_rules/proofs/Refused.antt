@@ -1,10 +1,10 @@
 -- A step that ends with a fault.
 use Rattle.std.proofs.Common.{◌≡◌, Result, Ok, Err, sym, subst}
 use Rattle.std.specs.Result.{IsErrAnd}
-use Rattle.graph_types.specs.Graph.{Graph}
+use Rattle.graph_types.specs.meaning.Graph.{Graph}
 use Rattle.graph_types.specs.declared.update.Update.{Update}
-use Rattle.mining_model.specs.Step.{step}
-use Rattle.update_rules.specs.Steps.{IsReason, Steps}
+use Rattle.mining_model.specs.meaning.Step.{step}
+use Rattle.update_rules.specs.calls.Steps.{IsReason, Steps}
 use Rattle.update_rules.specs.declared.StepFault.{StepFault}
 
 pub Steps-refused : (old new : Graph) (u : Update) (result : Result (Unit {0}) StepFault) (why : StepFault) → IsErrAnd result (λ fault. fault ≡ why) → new ≡ old → IsReason (step old u) why → Steps old u result new

@@ -1,2 +1,2 @@
-pub use Rattle.mining_model.specs.Step
-pub mod Steps
+pub use Rattle.mining_model.specs.meaning.Step
+pub mod calls

@@ -2,7 +2,7 @@
 #![tactic(auto)]
 
 ghost use Rattle.std.specs.Prelude.{◌≡◌};
-ghost use Rattle.update_rules.specs.Steps.{Joins, Steps};
+ghost use Rattle.update_rules.specs.calls.Steps.{Joins, Steps};
 
 use graph_types::{Edge, LabelId, NoMemory, Snapshot, Update, VertexId};
 

@@ -1,5 +1,5 @@
 use Rattle.std.proofs.Common.{sym, ◌∙◌}
-use Rattle.job_io.specs.Fields.{words_of}
+use Rattle.line_fields.specs.meaning.Fields.{words_of}
 use Rattle.update_reader.proofs.LineWords.{three_words, four_words, Reads-words}
 use Rattle.update_reader.proofs.read_line.Goals as goal
 

@@ -1,6 +1,6 @@
 use Rattle.std.proofs.Common.{IsOk, refl, sym, subst, ◌∙◌, rules}
 use Rattle.graph_types.specs.declared.update.Update.TheVariants.{LabelEdge}
-use Rattle.mining_model.specs.Step.{label_edge}
+use Rattle.mining_model.specs.meaning.Step.{label_edge}
 use Rattle.update_rules.specs.declared.StepFault.TheVariants as fault
 use Rattle.update_rules.proofs.Refused.{Steps-refused}
 use Rattle.update_rules.proofs.label_edge.Goals as goal

@@ -1,6 +1,6 @@
 use Rattle.std.proofs.Common.{refl, ◌∙◌, rules}
 use Rattle.graph_types.specs.declared.update.Update.TheVariants.{RemoveEdge}
-use Rattle.mining_model.specs.Step.{remove_edge}
+use Rattle.mining_model.specs.meaning.Step.{remove_edge}
 use Rattle.update_rules.proofs.Refused.{Steps-refused}
 use Rattle.update_rules.proofs.remove_edge.Goals as goal
 

@@ -1,5 +1,5 @@
 use Rattle.std.proofs.Common.{◌≡◌, map, string_bytes, sym, ap, ◌∙◌}
-use Rattle.command_words.specs.Words.{setting, settings_of}
+use Rattle.command_words.specs.meaning.Words.{setting, settings_of}
 use Rattle.command_words.proofs.Order.{out_of_order, in_order_as_later}
 use Rattle.command_words.proofs.Splitting.{after, first_and_rest}
 use Rattle.command_words.proofs.options.are_in_order.Goals as goal

@@ -1,6 +1,6 @@
 use Rattle.std.proofs.Common.{◌≡◌, ◌-◌, ◌∷◌, Some, None, length, take, drop, map, string_bytes, sym, ap, ◌∙◌}
 use Rattle.std.specs.Option.{option_map}
-use Rattle.command_words.specs.Words.{behind_dashes, parted, setting, settings_of, two_words}
+use Rattle.command_words.specs.meaning.Words.{behind_dashes, parted, setting, settings_of, two_words}
 use Rattle.command_words.proofs.Splitting.{first_and_rest, one_word-parted, settings_of-one_word, settings_of-two_words}
 use Rattle.command_words.proofs.settings.split_setting.Goals as goal
 

@@ -1,6 +1,6 @@
 use Rattle.std.proofs.Common.{◌≡◌, false, map, string_bytes, sym, ap, ◌∙◌}
 use Rattle.std.specs.Str.{bytes_eq}
-use Rattle.command_words.specs.Words.{setting, settings_of}
+use Rattle.command_words.specs.meaning.Words.{setting, settings_of}
 use Rattle.command_words.proofs.Splitting.{after, first_and_rest, value_named-later}
 use Rattle.command_words.proofs.settings.value_named.Goals as goal
 

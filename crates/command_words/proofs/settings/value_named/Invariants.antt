@@ -1,6 +1,6 @@
 -- What is left of the words gives the name the value that all of them give.
 use Rattle.std.proofs.Common.{◌≡◌, List, Some, length, map, string_bytes}
-use Rattle.command_words.specs.Words.{Setting, settings_of, value_named}
+use Rattle.command_words.specs.meaning.Words.{Setting, settings_of, value_named}
 use Rattle.command_words.proofs.settings.value_named.Given as goal
 
 abbrev pub invariant-loop-rest : goal.invariant-loop-rest

@@ -1,5 +1,5 @@
 use Rattle.std.proofs.Common.{◌≡◌, drop}
-use Rattle.graph_types.specs.Slots.{place_from}
+use Rattle.graph_types.specs.storage.Slots.{place_from}
 use Rattle.graph_types.proofs.piece.place_of.Given as goal
 
 abbrev pub invariant-loop-place : goal.invariant-loop-place

@@ -1,5 +1,5 @@
 use Rattle.std.proofs.Common.{◌≤◌, [], length}
-use Rattle.job_io.specs.Ends.{PassesOn}
+use Rattle.job_io.specs.calls.Ends.{PassesOn}
 use Rattle.job_io.proofs.ends.put_all.Given as goal
 
 abbrev pub invariant-loop-rest : goal.invariant-loop-rest

@@ -1,5 +1,5 @@
 use Rattle.std.proofs.Common.{◌+◌, arith}
-use Rattle.job_io.specs.Lines.{most_line_bytes}
+use Rattle.job_io.specs.meaning.Lines.{most_line_bytes}
 use Rattle.job_io.proofs.Ahead.{HasNoLf-take, HasNoLf-all, HasNoLf-front}
 use Rattle.job_io.proofs.line_reader.first_line.Goals as goal
 

@@ -1,5 +1,5 @@
 use Rattle.std.proofs.Common.{subst}
-use Rattle.job_io.specs.Reading.{IsAhead}
+use Rattle.job_io.specs.calls.Reading.{IsAhead}
 use Rattle.job_io.proofs.line_reader.look_ahead.Goals as goal
 
 pub returns-in-Some-clause-ok : goal.returns-in-Some-clause-ok

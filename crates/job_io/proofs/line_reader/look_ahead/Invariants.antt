@@ -1,6 +1,6 @@
 use Rattle.std.proofs.Common.{◌≡◌, ◌≤◌, ◌-◌, length, Contains}
-use Rattle.job_io.specs.Lines.{lf}
-use Rattle.job_io.specs.Reading.{Takes}
+use Rattle.job_io.specs.meaning.Lines.{lf}
+use Rattle.job_io.specs.calls.Reading.{Takes}
 use Rattle.job_io.proofs.line_reader.look_ahead.Given as goal
 
 abbrev pub invariant-loop-ahead : goal.invariant-loop-ahead

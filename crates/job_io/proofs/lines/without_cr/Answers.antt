@@ -1,6 +1,6 @@
 use Rattle.std.proofs.Common.{◌++◌, ◌∷◌, [], cond, sym, ◌∙◌, ap}
 use Rattle.std.proofs.lemmas.Bool.{eq-eqb, ne_eqb}
-use Rattle.job_io.specs.Lines.{without_cr, cr}
+use Rattle.job_io.specs.meaning.Lines.{without_cr, cr}
 use Rattle.job_io.proofs.LinesOf.{without_cr-push}
 use Rattle.job_io.proofs.lines.without_cr.Goals as goal
 

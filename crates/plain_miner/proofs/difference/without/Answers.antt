@@ -1,6 +1,6 @@
 use Rattle.std.proofs.Common.{◌++◌, ◌∷◌, [], take_all, sym, ap, ◌∙◌}
-use Rattle.graph_types.specs.Piece.{members_of_all}
-use Rattle.plain_miner.specs.Pieces.{pieces_without}
+use Rattle.graph_types.specs.meaning.Piece.{members_of_all}
+use Rattle.plain_miner.specs.meaning.Pieces.{pieces_without}
 use Rattle.plain_miner.proofs.SameMembers.{members_of_all-without, pieces_without-other, pieces_without-same}
 use Rattle.plain_miner.proofs.difference.without.Goals as goal
 use Rattle.plain_miner.proofs.difference.without.Goals.{then-not-is_among+in_ok-push, else-not-is_among}

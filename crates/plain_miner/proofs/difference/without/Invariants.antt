@@ -1,5 +1,5 @@
 use Rattle.std.proofs.Common.{◌≡◌, take}
-use Rattle.plain_miner.specs.Pieces.{pieces_without}
+use Rattle.plain_miner.specs.meaning.Pieces.{pieces_without}
 use Rattle.plain_miner.proofs.difference.without.Given as goal
 
 abbrev pub invariant-loop-piece : goal.invariant-loop-piece

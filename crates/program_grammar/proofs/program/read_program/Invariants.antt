@@ -1,6 +1,6 @@
 use Rattle.std.proofs.Common.{◌≡◌, ◌+◌, ◌⊎◌, drop}
-use Rattle.program_grammar.specs.Programs.{LinesFit, LinesStarve, RoomFor, lines_said, program_said}
-use Rattle.update_reader.specs.Names.{Names}
+use Rattle.program_grammar.specs.meaning.Programs.{LinesFit, LinesStarve, RoomFor, lines_said, program_said}
+use Rattle.line_fields.specs.meaning.Names.{Names}
 use Rattle.program_grammar.specs.declared.header.HeaderReader.TheVariants as header
 use Rattle.program_grammar.proofs.program.read_program.Given as goal
 

@@ -1,6 +1,6 @@
 use Rattle.std.proofs.Common.{◌≡◌, ◌≢◌, [], length, None, rules, arith, sym, ap, ◌∙◌, length-drop}
-use Rattle.job_io.specs.Fields.{trim_start}
-use Rattle.program_grammar.specs.Cursor.{token_of}
+use Rattle.line_fields.specs.meaning.Fields.{trim_start}
+use Rattle.program_grammar.specs.calls.Cursor.{token_of}
 use Rattle.std.proofs.lemmas.Bool.{eqb-true}
 use Rattle.program_grammar.proofs.Splitting.{length-0, all_counted, counted_other, counted_end, counted_next, trim_start-trim_start, length-trim_start}
 use Rattle.program_grammar.proofs.tokens.count_tokens.Goals as goal

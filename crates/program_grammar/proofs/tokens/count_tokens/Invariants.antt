@@ -1,6 +1,6 @@
 use Rattle.std.proofs.Common.{◌≡◌, ◌+◌, ◌≤◌, length, option_map}
-use Rattle.program_grammar.specs.Lexing.{tokens_of}
-use Rattle.job_io.specs.Fields.{trim_start}
+use Rattle.program_grammar.specs.meaning.Lexing.{tokens_of}
+use Rattle.line_fields.specs.meaning.Fields.{trim_start}
 use Rattle.program_grammar.proofs.tokens.count_tokens.Given as goal
 
 -- the tokens counted and those to come are those of the text

@@ -1,5 +1,5 @@
 use Rattle.std.proofs.Common.{◌≡◌, None, rules, sym, subst}
-use Rattle.program_grammar.specs.Cursor.{Splits, token_of}
+use Rattle.program_grammar.specs.calls.Cursor.{Splits, token_of}
 use Rattle.program_grammar.proofs.Splitting.{split_none, split_some}
 use Rattle.program_grammar.proofs.tokens.split_token.Goals as goal
 

@@ -1,5 +1,5 @@
 use Rattle.std.proofs.Common.{◌≡◌, ◌++◌, OnOk, sym, subst, arith}
-use Rattle.program_grammar.specs.Text.{written_cond}
+use Rattle.program_grammar.specs.meaning.Text.{written_cond}
 use Rattle.program_grammar.proofs.Round.{text_at-none, put_round}
 use Rattle.program_grammar.proofs.writing.+put.Goals as goal
 

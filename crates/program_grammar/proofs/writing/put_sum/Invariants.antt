@@ -1,6 +1,6 @@
 use Rattle.std.proofs.Common.{◌≡◌, ◌++◌, IsTrue, length}
 use Rattle.std.specs.List.{list_all}
-use Rattle.program_grammar.specs.Text.{knows_term, more_text, sum_text}
+use Rattle.program_grammar.specs.meaning.Text.{knows_term, more_text, sum_text}
 use Rattle.program_grammar.proofs.writing.put_sum.Given as goal
 
 -- what was written and what is left make the whole sum

@@ -1,6 +1,6 @@
 use Rattle.std.proofs.Common.{◌≡◌, rules, sym, ap, subst, ◌∙◌}
-use Rattle.program_grammar.specs.Programs.{LinesFit, program_said}
-use Rattle.program_grammar.specs.Text.{program_text}
+use Rattle.program_grammar.specs.meaning.Programs.{LinesFit, program_said}
+use Rattle.program_grammar.specs.meaning.Text.{program_text}
 use Rattle.program_grammar.specs.declared.header.HeaderReader.TheVariants as header
 use Rattle.program_grammar.proofs.RoundTrip.{LinesFit-written, program_said-written}
 use Rattle.program_grammar.proofs.writing.write_program.Goals as goal

@@ -1,5 +1,5 @@
 use Rattle.std.proofs.Common.{sym, ap, ◌∙◌}
-use Rattle.record_text.specs.Grammar.{member_of_parts}
+use Rattle.record_text.specs.meaning.Grammar.{member_of_parts}
 use Rattle.record_text.proofs.Words.{member_of_parts-more}
 use Rattle.record_text.proofs.read.read_member.Goals as goal
 

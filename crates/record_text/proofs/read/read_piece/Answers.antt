@@ -1,5 +1,5 @@
 use Rattle.std.proofs.Common.{sym, ap, ◌∙◌, subst}
-use Rattle.job_io.specs.Fields.{words_of}
+use Rattle.line_fields.specs.meaning.Fields.{words_of}
 use Rattle.record_text.proofs.Pieces.{IsRead, IsRead-more, goes_on, goes_on-stops, goes_on-more}
 use Rattle.record_text.proofs.read.read_piece.Goals as goal
 

@@ -1,7 +1,7 @@
 -- The piece so far goes on with the words that are left as the whole line says, and ends with the last member.
 use Rattle.std.proofs.Common.{◌≡◌, length}
-use Rattle.job_io.specs.Fields.{words_of}
-use Rattle.record_text.specs.Grammar.{piece_said}
+use Rattle.line_fields.specs.meaning.Fields.{words_of}
+use Rattle.record_text.specs.meaning.Grammar.{piece_said}
 use Rattle.record_text.proofs.Pieces.{IsRead, goes_on}
 use Rattle.record_text.proofs.read.read_piece.Given as goal
 

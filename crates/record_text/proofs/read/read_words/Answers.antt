@@ -1,8 +1,8 @@
 use Rattle.std.proofs.Common.{◌≡◌, ◌∷◌, false, sym, ap, ◌∙◌, rules}
 use Rattle.std.specs.Prelude.{codes}
 use Rattle.std.specs.Str.{bytes_eq}
-use Rattle.job_io.specs.Fields.{words_of}
-use Rattle.record_text.specs.Grammar.{record_said}
+use Rattle.line_fields.specs.meaning.Fields.{words_of}
+use Rattle.record_text.specs.meaning.Grammar.{record_said}
 use Rattle.record_text.proofs.Lines.{record_said-no_piece}
 use Rattle.record_text.proofs.read.read_words.Goals as goal
 

@@ -1,6 +1,6 @@
 use Rattle.std.proofs.Common.{◌∙◌, arith}
 use Rattle.std.proofs.lemmas.Result.{err_from_is_err_and}
-use Rattle.record_text.specs.Listing.{piece_line}
+use Rattle.record_text.specs.meaning.Listing.{piece_line}
 use Rattle.record_text.proofs.PieceLines.{passed-more, fails-at}
 use Rattle.record_text.proofs.write.write_lines.Goals as goal
 

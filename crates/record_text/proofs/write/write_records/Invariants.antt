@@ -1,8 +1,8 @@
 -- The records so far were passed on.
 use Rattle.std.proofs.Common.{◌≤◌, take}
-use Rattle.graph_types.specs.Piece.{members_of_all}
-use Rattle.job_io.specs.Ends.{PassesOn}
-use Rattle.mining_model.specs.Text.{records_text}
+use Rattle.graph_types.specs.meaning.Piece.{members_of_all}
+use Rattle.job_io.specs.calls.Ends.{PassesOn}
+use Rattle.record_text.specs.meaning.Text.{records_text}
 use Rattle.record_text.proofs.write.write_records.Given as goal
 
 abbrev pub invariant-loop-piece : goal.invariant-loop-piece

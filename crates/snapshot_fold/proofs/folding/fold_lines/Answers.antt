@@ -1,7 +1,7 @@
 use Rattle.std.proofs.Common.{Ok, sym, ap, subst, ◌∙◌, arith}
 use Rattle.std.proofs.lemmas.Result.{err_from_is_err_and}
-use Rattle.snapshot_fold.specs.Folding.{is_reached, at_end}
-use Rattle.snapshot_fold.specs.Reading.{Gives, TakesLine}
+use Rattle.snapshot_fold.specs.meaning.Folding.{is_reached, at_end}
+use Rattle.snapshot_fold.specs.calls.Reading.{Gives, TakesLine}
 use Rattle.snapshot_fold.proofs.Going.{Stands-start, Stands-next, Stands-reached, Stands-ends, Stands-stops}
 use Rattle.snapshot_fold.proofs.folding.fold_lines.Goals as goal
 

@@ -1,9 +1,9 @@
 use Rattle.std.proofs.Common.{◌≡◌, Ok, sym, subst, ap, ◌∙◌}
 use Rattle.std.specs.List.Sorted.{IsStrictlySortedBy}
-use Rattle.graph_types.specs.Piece.{piece_cmp}
-use Rattle.job_io.specs.Lines.{lines_of}
-use Rattle.snapshot_fold.specs.FoldState.{start}
-use Rattle.snapshot_fold.specs.Folding.{folded}
+use Rattle.graph_types.specs.meaning.Piece.{piece_cmp}
+use Rattle.job_io.specs.meaning.Lines.{lines_of}
+use Rattle.snapshot_fold.specs.meaning.FoldState.{start}
+use Rattle.snapshot_fold.specs.meaning.Folding.{folded}
 use Rattle.snapshot_fold.proofs.Known.{BothKnown-same}
 use Rattle.snapshot_fold.proofs.Told.{folded_from-reached}
 use Rattle.snapshot_fold.proofs.Going.{Folds-told}

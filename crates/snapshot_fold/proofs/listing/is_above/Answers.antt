@@ -1,6 +1,6 @@
 use Rattle.std.proofs.Common.{◌-◌, length, sym, ap, ◌∙◌, arith}
 use Rattle.std.specs.Ordering.{is_lt}
-use Rattle.snapshot_fold.specs.Pieces.{is_above}
+use Rattle.snapshot_fold.specs.meaning.Pieces.{is_above}
 use Rattle.snapshot_fold.proofs.Lasts.{last_of-at}
 use Rattle.snapshot_fold.proofs.listing.is_above.Goals as goal
 

@@ -1,6 +1,6 @@
 -- What was put, and what the pieces that are left will add, are the pieces before.
 use Rattle.std.proofs.Common.{◌≡◌, ◌++◌}
-use Rattle.snapshot_fold.specs.Undone.{undone}
+use Rattle.snapshot_fold.specs.storage.Undone.{undone}
 use Rattle.snapshot_fold.proofs.listing.put_back.Given as goal
 
 abbrev pub invariant-loop-piece : goal.invariant-loop-piece

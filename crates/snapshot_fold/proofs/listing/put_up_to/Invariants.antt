@@ -1,6 +1,6 @@
 -- What is left gives what is still to be put, and the others.
 use Rattle.std.proofs.Common.{◌≡◌, ◌++◌, length}
-use Rattle.snapshot_fold.specs.Undone.{beyond, up_to}
+use Rattle.snapshot_fold.specs.storage.Undone.{beyond, up_to}
 use Rattle.snapshot_fold.proofs.listing.put_up_to.Given as goal
 
 abbrev pub invariant-loop-left : goal.invariant-loop-left

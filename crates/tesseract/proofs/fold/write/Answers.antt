@@ -1,4 +1,4 @@
-use Rattle.tesseract.specs.Fold.{pieces_text}
+use Rattle.tesseract.specs.calls.Fold.{pieces_text}
 use Rattle.tesseract.proofs.Listing.{Puts-page}
 use Rattle.tesseract.proofs.fold.write.Goals as goal
 

@@ -1,5 +1,5 @@
 use Rattle.std.proofs.lemmas.Result.{err_from_is_err_and}
-use Rattle.tesseract.specs.Reading.{stage_of, stamp_of}
+use Rattle.tesseract.specs.calls.Reading.{stage_of, stamp_of}
 use Rattle.tesseract.proofs.Turning.{Running-sent, Running-unsent, Running-stops, turns_on}
 use Rattle.tesseract.proofs.Turning.{turn_fails, turn_ends, turn_starves}
 use Rattle.tesseract.proofs.mine.take_line.Goals as goal

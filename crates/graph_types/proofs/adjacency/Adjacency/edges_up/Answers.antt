@@ -2,7 +2,7 @@ use Rattle.std.proofs.Common.{map, filter, ap, sym, ◌∙◌}
 use Rattle.std.specs.Cmp.{nat_cmp_total}
 use Rattle.std.specs.FinMap as maps
 use Rattle.std.specs.List.{flat_map}
-use Rattle.graph_types.specs.Adjacency.{goes_up}
+use Rattle.graph_types.specs.storage.Adjacency.{goes_up}
 use Rattle.graph_types.proofs.EdgesInOrder.{keys-up}
 use Rattle.graph_types.proofs.Views.{entries-seen}
 use Rattle.graph_types.proofs.adjacency.Adjacency.edges_up.Goals as goal

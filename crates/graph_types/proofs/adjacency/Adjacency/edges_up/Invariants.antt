@@ -1,7 +1,7 @@
 use Rattle.std.proofs.Common.{◌≡◌, ◌++◌, map, filter}
 use Rattle.std.specs.FinMap as maps
 use Rattle.std.specs.List.{flat_map}
-use Rattle.graph_types.specs.Adjacency.{goes_up}
+use Rattle.graph_types.specs.storage.Adjacency.{goes_up}
 use Rattle.graph_types.proofs.adjacency.Adjacency.edges_up.Given as goal
 
 abbrev pub invariant-loop-v : goal.invariant-loop-v

@@ -4,8 +4,8 @@ use Rattle.std.specs.Ordering.{nat_cmp}
 use Rattle.std.specs.FinMap as map
 use Rattle.std.specs.Option.{is_some, option_and_then}
 use Rattle.std.proofs.lemmas.Result.{IfOk-weaker}
-use Rattle.graph_types.specs.Adjacency.{Lists}
-use Rattle.graph_types.specs.Graph.{has_edge}
+use Rattle.graph_types.specs.storage.Adjacency.{Lists}
+use Rattle.graph_types.specs.meaning.Graph.{has_edge}
 use Rattle.graph_types.proofs.Listing.{Lists-keys, Lists-alike, Lists-nothing}
 use Rattle.graph_types.proofs.Rows.{get-edges}
 use Rattle.graph_types.proofs.Views.{get-seen}

@@ -4,8 +4,8 @@ use Rattle.std.specs.FinMap as map
 use Rattle.std.specs.Option.{is_some, option_map, option_and_then}
 use Rattle.std.proofs.lemmas.Bool.{false≢true}
 use Rattle.std.proofs.lemmas.Result.{on_ok_weaker, on_err_weaker}
-use Rattle.graph_types.specs.Adjacency.{Rows, graph_of_rows}
-use Rattle.graph_types.specs.Graph.{with_edge, has_edge, has_vertex}
+use Rattle.graph_types.specs.storage.Adjacency.{Rows, graph_of_rows}
+use Rattle.graph_types.specs.meaning.Graph.{with_edge, has_edge, has_vertex}
 use Rattle.graph_types.proofs.Views.{get-seen, written-seen}
 use Rattle.graph_types.proofs.Rows.{get-labels, get-edges}
 use Rattle.graph_types.proofs.RowChanges.{graph-with_edge, row-again}

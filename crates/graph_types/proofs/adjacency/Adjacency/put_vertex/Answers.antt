@@ -4,8 +4,8 @@ use Rattle.std.specs.Ordering.{nat_cmp}
 use Rattle.std.specs.FinMap as map
 use Rattle.std.specs.Option.{is_some, option_and_then}
 use Rattle.graph_types.specs.declared.adjacency.Vertex.{Vertex}
-use Rattle.graph_types.specs.Adjacency.{graph_of_rows}
-use Rattle.graph_types.specs.Graph.{with_vertex}
+use Rattle.graph_types.specs.storage.Adjacency.{graph_of_rows}
+use Rattle.graph_types.specs.meaning.Graph.{with_vertex}
 use Rattle.graph_types.proofs.Views.{get-seen, written-seen}
 use Rattle.graph_types.proofs.RowChanges.{graph-with_label}
 use Rattle.graph_types.proofs.adjacency.Adjacency.put_vertex.Goals as goal

@@ -2,8 +2,8 @@ use Rattle.std.proofs.Common.{ap, sym, ◌∙◌}
 use Rattle.std.specs.Cmp.{nat_cmp_total}
 use Rattle.std.specs.FinMap as map
 use Rattle.std.specs.Option.{is_some}
-use Rattle.graph_types.specs.Adjacency.{graph_of_rows}
-use Rattle.graph_types.specs.Graph.{without_edge}
+use Rattle.graph_types.specs.storage.Adjacency.{graph_of_rows}
+use Rattle.graph_types.specs.meaning.Graph.{without_edge}
 use Rattle.graph_types.proofs.Views.{get-seen, written-seen}
 use Rattle.graph_types.proofs.RowChanges.{graph-without_edge, without_no_row}
 use Rattle.graph_types.proofs.adjacency.Adjacency.take_edge.Goals as goal

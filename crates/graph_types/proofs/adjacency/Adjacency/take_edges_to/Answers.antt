@@ -1,5 +1,5 @@
 use Rattle.std.proofs.Common.{ap, sym, ◌∙◌}
-use Rattle.graph_types.specs.Adjacency.{without_edges_to}
+use Rattle.graph_types.specs.storage.Adjacency.{without_edges_to}
 use Rattle.graph_types.proofs.RowChanges.{without_edges_to-next, without_edges_to-none}
 use Rattle.graph_types.proofs.adjacency.Adjacency.take_edges_to.Goals as goal
 

@@ -1,6 +1,6 @@
 use Rattle.std.proofs.Common.{◌≡◌}
 use Rattle.std.specs.FinMap as map
-use Rattle.graph_types.specs.Adjacency.{without_edges_to}
+use Rattle.graph_types.specs.storage.Adjacency.{without_edges_to}
 use Rattle.graph_types.proofs.adjacency.Adjacency.take_edges_to.Given as goal
 
 abbrev pub invariant-loop-from : goal.invariant-loop-from

@@ -3,7 +3,7 @@ use Rattle.std.specs.Cmp.{nat_cmp_total}
 use Rattle.std.specs.Ordering.{nat_cmp}
 use Rattle.std.specs.FinMap as map
 use Rattle.std.specs.Option.{option_and_then}
-use Rattle.graph_types.specs.Adjacency.{graph_of_rows, without_row}
+use Rattle.graph_types.specs.storage.Adjacency.{graph_of_rows, without_row}
 use Rattle.graph_types.proofs.Views.{get-seen, remove-seen}
 use Rattle.graph_types.proofs.Rows.{get-edges}
 use Rattle.graph_types.proofs.RowChanges.{graph-without_row}

@@ -2,8 +2,8 @@ use Rattle.std.proofs.Common.{ap, sym, subst, ◌∙◌}
 use Rattle.std.specs.Cmp.{nat_cmp_total}
 use Rattle.std.specs.Ordering.{nat_cmp}
 use Rattle.std.specs.FinMap as map
-use Rattle.graph_types.specs.Few.{IsAscending}
-use Rattle.graph_types.specs.Kept.{pairs_of, map_of}
+use Rattle.graph_types.specs.storage.Few.{IsAscending}
+use Rattle.graph_types.specs.storage.Kept.{pairs_of, map_of}
 use Rattle.graph_types.proofs.Views.{get-seen}
 use Rattle.graph_types.proofs.neighbours.Neighbours.label.Goals as goal
 

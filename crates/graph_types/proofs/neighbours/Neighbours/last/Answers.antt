@@ -2,7 +2,7 @@ use Rattle.std.proofs.Common.{◌-◌, length, slice_get, ap, sym, ◌∙◌}
 use Rattle.std.specs.Cmp.{nat_cmp_total}
 use Rattle.std.specs.FinMap as map
 use Rattle.std.specs.Option.{is_some}
-use Rattle.graph_types.specs.Kept.{map_of}
+use Rattle.graph_types.specs.storage.Kept.{map_of}
 use Rattle.graph_types.proofs.FewPairs.{found-at}
 use Rattle.graph_types.proofs.Views.{get-seen}
 use Rattle.graph_types.proofs.neighbours.Neighbours.last.Goals as goal

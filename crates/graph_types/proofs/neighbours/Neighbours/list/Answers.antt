@@ -3,8 +3,8 @@ use Rattle.std.specs.Cmp.{nat_cmp_total}
 use Rattle.std.specs.FinMap as map
 use Rattle.std.specs.Map.{keys_of}
 use Rattle.std.proofs.lemmas.Result.{IfOk-weaker}
-use Rattle.graph_types.specs.Few.{IsAscending}
-use Rattle.graph_types.specs.Kept.{pairs_of, map_of}
+use Rattle.graph_types.specs.storage.Few.{IsAscending}
+use Rattle.graph_types.specs.storage.Kept.{pairs_of, map_of}
 use Rattle.graph_types.proofs.Views.{keys-seen}
 use Rattle.graph_types.proofs.neighbours.Neighbours.list.Goals as goal
 

@@ -4,8 +4,8 @@ use Rattle.std.specs.Cmp.{nat_cmp_total}
 use Rattle.std.specs.FinMap as map
 use Rattle.std.specs.Ordering.{nat_cmp}
 use Rattle.std.proofs.lemmas.Result.{err_from_is_err_and}
-use Rattle.graph_types.specs.Few.{IsAscending}
-use Rattle.graph_types.specs.Kept.{pairs_of, map_of}
+use Rattle.graph_types.specs.storage.Few.{IsAscending}
+use Rattle.graph_types.specs.storage.Kept.{pairs_of, map_of}
 use Rattle.graph_types.proofs.FewPairs.{collected-seen}
 use Rattle.graph_types.proofs.Views.{none_from}
 use Rattle.graph_types.proofs.neighbours.Neighbours.make_room.Goals as goal

@@ -1,7 +1,7 @@
 use Rattle.std.proofs.Common.{ap, sym, subst}
 use Rattle.std.specs.FinMap as map
 use Rattle.std.specs.Ordering.{nat_cmp}
-use Rattle.graph_types.specs.Few.{IsAscending}
+use Rattle.graph_types.specs.storage.Few.{IsAscending}
 use Rattle.graph_types.proofs.FewPairs.{IsAscending-nothing}
 use Rattle.graph_types.proofs.neighbours.Neighbours.new.Goals as goal
 

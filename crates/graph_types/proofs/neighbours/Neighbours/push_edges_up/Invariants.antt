@@ -1,5 +1,5 @@
 use Rattle.std.proofs.Common.{◌≡◌, ◌++◌, map, take, filter}
-use Rattle.graph_types.specs.Adjacency.{goes_up}
+use Rattle.graph_types.specs.storage.Adjacency.{goes_up}
 use Rattle.graph_types.proofs.neighbours.Neighbours.push_edges_up.Given as goal
 
 abbrev pub invariant-loop-to : goal.invariant-loop-to

@@ -3,8 +3,8 @@ use Rattle.std.specs.BTreeMap.{is_at}
 use Rattle.std.specs.Cmp.{nat_cmp_total}
 use Rattle.std.specs.FinMap as map
 use Rattle.std.specs.Ordering.{nat_cmp}
-use Rattle.graph_types.specs.Few.{IsAscending}
-use Rattle.graph_types.specs.Kept.{pairs_of, map_of}
+use Rattle.graph_types.specs.storage.Few.{IsAscending}
+use Rattle.graph_types.specs.storage.Kept.{pairs_of, map_of}
 use Rattle.graph_types.proofs.FewPairs.{IsAscending-remove_entry, removed-seen}
 use Rattle.graph_types.proofs.Views.{remove-seen}
 use Rattle.graph_types.proofs.neighbours.Neighbours.take.Goals as goal

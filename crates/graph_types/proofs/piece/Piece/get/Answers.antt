@@ -1,5 +1,5 @@
 use Rattle.std.proofs.Common.{ap, subst, ◌∙◌}
-use Rattle.graph_types.specs.Piece.{IsPiece}
+use Rattle.graph_types.specs.meaning.Piece.{IsPiece}
 use Rattle.graph_types.proofs.Packed.{slot_found}
 use Rattle.graph_types.proofs.piece.Piece.get.Goals as goal
 

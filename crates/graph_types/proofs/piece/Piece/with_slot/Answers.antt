@@ -1,4 +1,4 @@
-use Rattle.graph_types.specs.Slots.{member_in}
+use Rattle.graph_types.specs.storage.Slots.{member_in}
 use Rattle.graph_types.proofs.Packed.{Joins, is_there, joins, packed_joined}
 use Rattle.graph_types.proofs.piece.Piece.with_slot.Goals as goal
 use Rattle.graph_types.proofs.piece.Piece.with_slot.Goals.{In_ok-place}

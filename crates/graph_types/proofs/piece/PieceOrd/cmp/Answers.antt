@@ -4,8 +4,8 @@ use Rattle.std.specs.Ordering.{ordering_then}
 use Rattle.graph_types.specs.declared.ids.Mode.{Mode}
 use Rattle.graph_types.specs.declared.ids.Mode.TheVariants.{Vertex, Edge}
 use Rattle.graph_types.specs.contracts.ids.ModeOrd.TheImpl as derived
-use Rattle.graph_types.specs.Graph.{pair_cmp}
-use Rattle.graph_types.specs.Piece.{IsPiece, mode_cmp}
+use Rattle.graph_types.specs.meaning.Graph.{pair_cmp}
+use Rattle.graph_types.specs.meaning.Piece.{IsPiece, mode_cmp}
 use Rattle.graph_types.proofs.Members.{piece_cmp-slots}
 use Rattle.graph_types.proofs.piece.PieceOrd.cmp.Goals as goal
 

@@ -1,7 +1,7 @@
 use Rattle.std.proofs.Common.{arith, ap, sym, subst, ◌∙◌}
 use Rattle.std.specs.FinMap as map
 use Rattle.std.specs.Option.{is_some}
-use Rattle.graph_types.specs.Graph.{HasEnds}
+use Rattle.graph_types.specs.meaning.Graph.{HasEnds}
 use Rattle.graph_types.proofs.Undirected.{edge-below, HasEnds-undirected}
 use Rattle.graph_types.proofs.snapshot.Snapshot.edge_label.Goals as goal
 

@@ -1,5 +1,5 @@
 use Rattle.std.proofs.Common.{subst}
-use Rattle.graph_types.specs.Simple.{IsSimple}
+use Rattle.graph_types.specs.meaning.Simple.{IsSimple}
 use Rattle.graph_types.proofs.Undirected.{IsSimple-undirected}
 use Rattle.graph_types.proofs.snapshot.Snapshot.label.Goals as goal
 

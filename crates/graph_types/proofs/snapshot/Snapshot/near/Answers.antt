@@ -1,6 +1,6 @@
 use Rattle.std.proofs.Common.{ap, ◌∙◌}
 use Rattle.std.proofs.lemmas.Result.{IfOk-weaker}
-use Rattle.graph_types.specs.Graph.{neighbours}
+use Rattle.graph_types.specs.meaning.Graph.{neighbours}
 use Rattle.graph_types.proofs.Undirected.{Lists-neighbours}
 use Rattle.graph_types.proofs.snapshot.Snapshot.near.Goals as goal
 

@@ -1,5 +1,5 @@
 use Rattle.std.proofs.Common.{ap, ◌∙◌}
-use Rattle.graph_types.specs.Adjacency.{undirected}
+use Rattle.graph_types.specs.storage.Adjacency.{undirected}
 use Rattle.graph_types.proofs.Undirected.{IsUndirected-empty_graph, undirected-empty_graph}
 use Rattle.graph_types.proofs.snapshot.Snapshot.new.Goals as goal
 

@@ -1,6 +1,6 @@
 use Rattle.std.proofs.Common.{◌≡◌, ◌<◌, arith, ap, sym, subst, ◌∙◌}
-use Rattle.graph_types.specs.Adjacency.{IsUndirected, undirected}
-use Rattle.graph_types.specs.Graph.{has_edge, with_edge, without_edge}
+use Rattle.graph_types.specs.storage.Adjacency.{IsUndirected, undirected}
+use Rattle.graph_types.specs.meaning.Graph.{has_edge, with_edge, without_edge}
 use Rattle.graph_types.proofs.Undirected.{end_is_there, put_both, put_undone, IsUndirected-put_both}
 use Rattle.graph_types.proofs.snapshot.Snapshot.put_edge.Goals as goal
 

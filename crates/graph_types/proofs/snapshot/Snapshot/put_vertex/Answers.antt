@@ -1,6 +1,6 @@
 use Rattle.std.proofs.Common.{ap, ◌∙◌}
-use Rattle.graph_types.specs.Adjacency.{undirected}
-use Rattle.graph_types.specs.Graph.{with_vertex}
+use Rattle.graph_types.specs.storage.Adjacency.{undirected}
+use Rattle.graph_types.specs.meaning.Graph.{with_vertex}
 use Rattle.graph_types.proofs.Undirected.{IsUndirected-with_vertex}
 use Rattle.graph_types.proofs.snapshot.Snapshot.put_vertex.Goals as goal
 

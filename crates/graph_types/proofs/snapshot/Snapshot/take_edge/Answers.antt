@@ -1,5 +1,5 @@
 use Rattle.std.proofs.Common.{◌<◌, arith, ◌∙◌}
-use Rattle.graph_types.specs.Graph.{without_edge}
+use Rattle.graph_types.specs.meaning.Graph.{without_edge}
 use Rattle.graph_types.proofs.Undirected.{take_both, IsUndirected-take_both}
 use Rattle.graph_types.proofs.snapshot.Snapshot.take_edge.Goals as goal
 

@@ -1,5 +1,5 @@
 use Rattle.std.proofs.Common.{ap, ◌∙◌}
-use Rattle.graph_types.specs.Graph.{without_vertex}
+use Rattle.graph_types.specs.meaning.Graph.{without_vertex}
 use Rattle.graph_types.proofs.Undirected.{IsUndirected-without_vertex, undirected-without_vertex}
 use Rattle.graph_types.proofs.snapshot.Snapshot.take_vertex.Goals as goal
 

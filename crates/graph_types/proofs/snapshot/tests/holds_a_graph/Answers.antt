@@ -1,5 +1,5 @@
 use Rattle.std.proofs.Common.{◌≡◌, IsTrue, rules}
-use Rattle.graph_types.specs.Graph.{has_vertex}
+use Rattle.graph_types.specs.meaning.Graph.{has_vertex}
 use Rattle.graph_types.proofs.Graph.{has_vertex-with_vertex, has_vertex-kept}
 use Rattle.graph_types.proofs.snapshot.tests.holds_a_graph.Goals as goal
 

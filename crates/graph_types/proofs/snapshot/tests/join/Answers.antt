@@ -1,5 +1,5 @@
 use Rattle.std.proofs.Common.{◌≡◌, rules}
-use Rattle.graph_types.specs.Graph.{edge_between}
+use Rattle.graph_types.specs.meaning.Graph.{edge_between}
 use Rattle.graph_types.proofs.Graph.{has_vertex-with_vertex, has_vertex-kept, HasEnds-between}
 use Rattle.graph_types.proofs.snapshot.tests.join.Goals as goal
 

@@ -1,5 +1,5 @@
 use Rattle.std.proofs.Common.{◌≤◌, ◌+◌, length, drop, ◌∙◌, ap, arith}
-use Rattle.job_io.specs.LineBuffer.{Buffered}
+use Rattle.job_io.specs.storage.LineBuffer.{Buffered}
 use Rattle.job_io.proofs.BlockOf.{slice_range-skip, length-slice_range}
 use Rattle.job_io.proofs.line_buffer.LineBuffer.give.Goals as goal
 

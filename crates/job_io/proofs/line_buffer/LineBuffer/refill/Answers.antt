@@ -1,5 +1,5 @@
 use Rattle.std.proofs.Common.{◌≡◌, ◌≤◌, ◌-◌, length, take, sym, ◌∙◌, ap, arith, length-take, length-drop}
-use Rattle.job_io.specs.LineBuffer.{Buffered}
+use Rattle.job_io.specs.storage.LineBuffer.{Buffered}
 use Rattle.job_io.proofs.BlockOf.{take-copy_within, length-slice_range, slice_range-filled}
 use Rattle.job_io.proofs.line_buffer.LineBuffer.refill.Goals as goal
 

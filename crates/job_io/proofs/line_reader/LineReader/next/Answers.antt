@@ -1,6 +1,6 @@
 use Rattle.std.proofs.Common.{◌+◌, sym, ◌∙◌, ap, subst, arith}
-use Rattle.job_io.specs.Lines.{Reading}
-use Rattle.job_io.specs.Reading.{Takes, TellsAny, IsAhead}
+use Rattle.job_io.specs.meaning.Lines.{Reading}
+use Rattle.job_io.specs.calls.Reading.{Takes, TellsAny, IsAhead}
 use Rattle.job_io.proofs.Ahead.{gives_line, gives_last, more_follows, long_line_follows}
 use Rattle.job_io.proofs.line_reader.LineReader.next.Goals as goal
 

@@ -1,6 +1,6 @@
 use Rattle.std.proofs.Common.{◌↔◌, IsTrue, Contains, sym, ◌∙◌, ap, subst}
 use Rattle.memchr.specs.Find.{IsFirstByte, is_byte}
-use Rattle.job_io.specs.Lines.{lf, Reading}
+use Rattle.job_io.specs.meaning.Lines.{lf, Reading}
 use Rattle.job_io.proofs.Ahead.{found_lf}
 use Rattle.job_io.proofs.line_reader.LineReader.ready.Goals as goal
 

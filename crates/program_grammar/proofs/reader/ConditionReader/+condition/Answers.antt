@@ -1,10 +1,10 @@
 use Rattle.std.proofs.Common.{◌-◌, length, Ok, Err, codes, sym, ap, ◌∙◌, arith}
 use Rattle.std.proofs.lemmas.Result.{err_from_is_err_and}
-use Rattle.filter_polarity.specs.declared.condition.Cond.{Cond}
-use Rattle.filter_polarity.specs.declared.condition.Cond.TheOpen as form
-use Rattle.filter_polarity.specs.declared.condition.Cond.TheViews.{roll-Cond}
-use Rattle.program_grammar.specs.Token.{word}
-use Rattle.program_grammar.specs.Grammar.{◌>>=◌, cond_within, conj, neg, inside}
+use Rattle.conditions.specs.declared.condition.Cond.{Cond}
+use Rattle.conditions.specs.declared.condition.Cond.TheOpen as form
+use Rattle.conditions.specs.declared.condition.Cond.TheViews.{roll-Cond}
+use Rattle.program_grammar.specs.meaning.Token.{word}
+use Rattle.program_grammar.specs.meaning.Grammar.{◌>>=◌, cond_within, conj, neg, inside}
 use Rattle.program_grammar.proofs.Chaining.{Reads-err, Reads-refused, conj-first, cond-first, chain_stop, chain_more, chain_fail, neg-opened, neg-full, negated, atom-opened, atom-full, closed, closed-passed, closed-missed}
 use Rattle.program_grammar.proofs.reader.ConditionReader.+condition.Goals as goal
 

@@ -1,5 +1,5 @@
 use Rattle.std.proofs.Common.{◌≡◌, ℕ, ◌+◌, ◌*◌, ◌≤◌, length}
-use Rattle.program_grammar.specs.Grammar.{and_chain, or_chain, cond_within, conj, inside}
+use Rattle.program_grammar.specs.meaning.Grammar.{and_chain, or_chain, cond_within, conj, inside}
 use Rattle.program_grammar.proofs.reader.ConditionReader.+condition.Given as goal
 
 abbrev pub decreases-atom : goal.decreases-atom

@@ -1,5 +1,5 @@
 use Rattle.std.proofs.Common.{◌≡◌, ◌≤◌, length}
-use Rattle.program_grammar.specs.Grammar.{more_uses, sum_of}
+use Rattle.program_grammar.specs.meaning.Grammar.{more_uses, sum_of}
 use Rattle.program_grammar.proofs.reader.ConditionReader.sum.Given as goal
 
 -- what is left to read, behind what was read so far, gives what the whole gives

@@ -1,8 +1,8 @@
 use Rattle.std.proofs.Common.{sym, subst, ◌∙◌}
 use Rattle.std.specs.List.Sorted.{IsStrictlySortedBy}
 use Rattle.std.proofs.lemmas.Result.{IfOk-weaker}
-use Rattle.graph_types.specs.Piece.{piece_cmp}
-use Rattle.snapshot_fold.specs.Undone.{undone}
+use Rattle.graph_types.specs.meaning.Piece.{piece_cmp}
+use Rattle.snapshot_fold.specs.storage.Undone.{undone}
 use Rattle.snapshot_fold.proofs.Undone.{undone-ascends}
 use Rattle.snapshot_fold.proofs.fold.Fold.listing.Goals as goal
 

@@ -1,5 +1,5 @@
 use Rattle.std.proofs.Common.{◌≡◌, false, sym, ap, ◌∙◌}
-use Rattle.snapshot_fold.specs.Pieces.{is_among}
+use Rattle.snapshot_fold.specs.meaning.Pieces.{is_among}
 use Rattle.snapshot_fold.proofs.Steps.{after_new_is, on_ok, not_there}
 use Rattle.snapshot_fold.proofs.fold.Fold.put_in.Goals as goal
 

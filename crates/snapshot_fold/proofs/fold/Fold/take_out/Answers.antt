@@ -1,5 +1,5 @@
 use Rattle.std.proofs.Common.{sym, ap, ◌∙◌}
-use Rattle.snapshot_fold.specs.Pieces.{is_among}
+use Rattle.snapshot_fold.specs.meaning.Pieces.{is_among}
 use Rattle.snapshot_fold.proofs.Steps.{after_rem_is, on_ok}
 use Rattle.snapshot_fold.proofs.fold.Fold.take_out.Goals as goal
 

@@ -1,8 +1,8 @@
 use Rattle.std.proofs.Common.{Err, arith, ap, length, length-append, subst}
-use Rattle.update_reader.specs.Names.{Names}
+use Rattle.line_fields.specs.meaning.Names.{Names}
 use Rattle.program_grammar.specs.declared.header.HeaderStep.{HeaderStep}
-use Rattle.program_grammar.specs.Answers.{AnswersLine}
-use Rattle.program_grammar.specs.Header.{header_said}
+use Rattle.program_grammar.specs.calls.Answers.{AnswersLine}
+use Rattle.program_grammar.specs.meaning.Header.{header_said}
 use Rattle.program_grammar.proofs.WholePrograms.{has-room, line-room}
 use Rattle.tesseract.proofs.header.Header.take.Goals as goal
 

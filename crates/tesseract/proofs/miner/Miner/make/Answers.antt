@@ -1,5 +1,5 @@
 use Rattle.std.proofs.Common.{◌≡◌, ◌∙◌, ℕ, ap}
-use Rattle.tesseract.specs.Mining.{Mining}
+use Rattle.tesseract.specs.storage.Mining.{Mining}
 use Rattle.tesseract.proofs.Making.{IsMade-from}
 use Rattle.tesseract.proofs.miner.Miner.make.Goals as goal
 

@@ -1,5 +1,5 @@
 use Rattle.std.proofs.Common.{sym}
-use Rattle.cond_eval.specs.Patterns.{pattern_of}
+use Rattle.cond_eval.specs.meaning.Patterns.{pattern_of}
 use Rattle.tesseract.proofs.Making.{embeddings-empty}
 use Rattle.tesseract.proofs.miner.Miner.new.Goals as goal
 

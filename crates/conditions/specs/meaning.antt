@@ -1,0 +1,4 @@
+-- What is meant.
+pub mod Counts
+pub mod Conditions
+pub mod Written

@@ -1,0 +1,91 @@
+-- How large a condition is as it is written with no more parentheses than it needs, and how large it may be.
+use Rattle.std.specs.Prelude.{ℕ, ◌+◌, ◌-◌, ◌*◌, ◌≤◌, Bool, true, ◌&&◌, IsTrue, eqb, nat_lt, nat_le, max, if◌then◌else◌, List, length, sum_by, Some}
+use Rattle.std.specs.List.{list_all}
+use Rattle.conditions.specs.declared.condition.Cond.{Cond, fold-Cond}
+use Rattle.conditions.specs.declared.condition.Cond.TheOpen.{Cond-F, True, False, Compare, Not, And, Or}
+use Rattle.conditions.specs.declared.condition.Factor.{Factor}
+use Rattle.conditions.specs.declared.condition.Term.{Term}
+use Rattle.conditions.specs.declared.condition.Term.TheVariants.{Vertices, Edges, Joins}
+
+-- A term is its name, with parentheses round its labels and a comma between two.
+abbrev pub term_tokens : Term → ℕ
+term_tokens (Vertices (Some l)) = 4
+term_tokens (Edges (Some l)) = 4
+term_tokens (Joins l m) = 6
+term_tokens _ = 1
+
+-- a factor is its number, `*` and its term; a factor of 1 is its term alone
+abbrev pub factor_tokens : Factor → ℕ
+factor_tokens f = term_tokens f.term + (if eqb f.times 1 then 0 else 2)
+
+-- the factors of a sum, with `+` between them
+abbrev pub sum_tokens : List Factor → ℕ
+sum_tokens sum = sum_by factor_tokens sum + (length sum - 1)
+
+-- Of a condition as it is written: how tightly it binds (`or` 0, `and` 1, all else 2), how many tokens it
+-- has, and how many `not` and parentheses are open at once where the most are.
+pub record Written : Type 0 where
+  pub binding : ℕ
+  pub tokens : ℕ
+  pub depth : ℕ
+
+-- the pairs of parentheses round a condition: one where it binds less than its place asks for, and else none
+abbrev pub pairs_round : ℕ → Written → ℕ
+pairs_round asked c = if nat_lt c.binding asked then 1 else 0
+
+abbrev pub tokens_at : ℕ → Written → ℕ
+tokens_at asked c = c.tokens + 2 * pairs_round asked c
+
+abbrev pub depth_at : ℕ → Written → ℕ
+depth_at asked c = c.depth + pairs_round asked c
+
+-- The operand of `not` has to bind by 2. `and` and `or` group to the left, so that the right operand has to
+-- bind more than the word does.
+abbrev pub written_of : Cond-F Written → Written
+written_of True = record { binding = 2; tokens = 1; depth = 0 }
+written_of False = record { binding = 2; tokens = 1; depth = 0 }
+written_of (Compare sum op bound) = record { binding = 2; tokens = sum_tokens sum + 2; depth = 0 }
+written_of (Not c) = record { binding = 2; tokens = 1 + tokens_at 2 c; depth = 1 + depth_at 2 c }
+written_of (And c d) = record { binding = 1; tokens = tokens_at 1 c + 1 + tokens_at 2 d; depth = max (depth_at 1 c) (depth_at 2 d) }
+written_of (Or c d) = record { binding = 0; tokens = tokens_at 0 c + 1 + tokens_at 1 d; depth = max (depth_at 0 c) (depth_at 1 d) }
+
+abbrev pub written : Cond → Written
+written c = fold-Cond Written written_of c
+
+-- the most that a factor, a bound, a sum and a whole condition may have
+abbrev pub most_times : ℕ
+most_times = 100
+
+abbrev pub most_bound : ℕ
+most_bound = 10000
+
+abbrev pub most_factors : ℕ
+most_factors = 16
+
+abbrev pub most_depth : ℕ
+most_depth = 32
+
+abbrev pub most_tokens : ℕ
+most_tokens = 512
+
+-- a sum has 1 to 16 factors, each of at most 100
+abbrev pub is_sum_within : List Factor → Bool
+is_sum_within sum = nat_le 1 (length sum) && nat_le (length sum) most_factors && list_all (λ f. nat_le f.times most_times) sum
+
+-- each sum and each bound of a condition is within these numbers
+abbrev pub are_numbers_within_of : Cond-F Bool → Bool
+are_numbers_within_of True = true
+are_numbers_within_of False = true
+are_numbers_within_of (Compare sum op bound) = is_sum_within sum && nat_le bound most_bound
+are_numbers_within_of (Not c) = c
+are_numbers_within_of (And c d) = c && d
+are_numbers_within_of (Or c d) = c && d
+
+abbrev pub are_numbers_within : Cond → Bool
+are_numbers_within c = fold-Cond Bool are_numbers_within_of c
+
+-- the condition is no larger than one may be
+pub record IsWithinLimits (c : Cond) : Type 0 where
+  pub numbers : IsTrue (are_numbers_within c)
+  pub depth : (written c).depth ≤ most_depth
+  pub tokens : (written c).tokens ≤ most_tokens

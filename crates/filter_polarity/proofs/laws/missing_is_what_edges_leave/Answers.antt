@@ -1,5 +1,0 @@
-use Rattle.filter_polarity.proofs.MissingPairs.{missing_and_edges}
-use Rattle.filter_polarity.proofs.laws.missing_is_what_edges_leave.Goals as goal
-
-pub returns : goal.returns
-returns c = missing_and_edges

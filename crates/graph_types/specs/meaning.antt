@@ -1,0 +1,5 @@
+-- What is meant.
+pub mod Graph
+pub mod Simple
+pub mod Piece
+pub mod Orders

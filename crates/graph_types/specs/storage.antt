@@ -1,0 +1,5 @@
+-- How it is stored.
+pub mod Adjacency
+pub mod Few
+pub mod Kept
+pub mod Slots

@@ -1,6 +1,0 @@
-use Rattle.std.proofs.Common.{◌≡◌, ◌-◌}
-use Rattle.job_io.specs.Fields.{rest_of}
-use Rattle.job_io.proofs.fields.rest.Given as goal
-
-abbrev pub invariant-loop : goal.invariant-loop
-invariant-loop l = rest_of l.rest (l.i - l.counter) ≡ rest_of l.line l.i

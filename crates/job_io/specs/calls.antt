@@ -1,0 +1,4 @@
+-- What the calls do, by their results.
+pub mod Ends
+pub mod Reading
+pub mod Memory

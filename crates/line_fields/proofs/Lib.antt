@@ -1,0 +1,3 @@
+pub mod WordsOf
+pub mod NumberOf
+mod Numbers

@@ -1,0 +1,6 @@
+-- What is meant.
+pub mod Step
+pub mod Picture
+pub mod Connected
+pub mod Embeddings
+pub mod Changes

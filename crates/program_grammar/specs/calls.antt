@@ -1,0 +1,5 @@
+-- What the calls do, by their results.
+pub mod Reading
+pub mod Answers
+pub mod Faults
+pub mod Cursor

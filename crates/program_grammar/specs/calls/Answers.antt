@@ -1,0 +1,47 @@
+-- What reading a line of a header answers.
+use Rattle.std.specs.Prelude.{◌≡◌, ◌+◌, ◌≤◌, ◌⊎◌, ℕ, List, ◌++◌, length, Result, Ok, Err}
+use Rattle.conditions.specs.meaning.Written.{most_tokens}
+use Rattle.line_fields.specs.meaning.Names.{Names, most_names}
+use Rattle.program_grammar.specs.declared.fault.ProgramFault.{ProgramFault}
+use Rattle.program_grammar.specs.declared.fault.ProgramFault.TheVariants as fault
+use Rattle.program_grammar.specs.declared.fault.ReadError.{ReadError}
+use Rattle.program_grammar.specs.declared.fault.ReadError.TheVariants as error
+use Rattle.program_grammar.specs.declared.fault.Refusal.{Refusal}
+use Rattle.program_grammar.specs.declared.fault.Refusal.TheVariants as refusal
+use Rattle.program_grammar.specs.calls.Reading.{AddsFirst, Grows}
+
+-- There is room for the labels of a condition, whatever they are; or there is for those that it brings.
+abbrev pub FewNames : {A : Type 0} → Result (A × Names) Refusal → Type 0
+FewNames (Ok read) = length read.1 ≤ most_names
+FewNames (Err f) = Unit {0}
+
+abbrev pub HasRoom : {A : Type 0} → Names → Result (A × Names) Refusal → Type 0
+HasRoom names said = (length names + most_tokens ≤ most_names) ⊎ FewNames said
+
+-- a line that was read brings these labels, and no more than a condition has tokens
+abbrev pub Brings : {A : Type 0} → Names → A × Names → List (List ℕ) → Type 0
+Brings old read labels = (read.1 ≡ old ++ labels) × (length labels ≤ most_tokens)
+
+-- Memory was wanted: the names are as they were, or the first of the labels that the line brings were added, and
+-- no others. A line that is refused brings none.
+abbrev pub Starves : {A : Type 0} → Names → Result (A × Names) Refusal → Names → Type 0
+Starves old (Ok read) new = (new ≡ old) ⊎ ((labels : List (List ℕ)) × Brings old read labels × AddsFirst labels old new)
+Starves old (Err f) new = new ≡ old
+
+-- It was read, and the names are those then, with few more; or it was refused, and they are as they were; or
+-- memory was wanted.
+abbrev pub Answers : {A : Type 0} → Names → Result (A × Names) Refusal → Result A ReadError → Names → Type 0
+Answers old said (Ok x) new = (said ≡ Ok (x, new)) × Grows most_tokens old new
+Answers old said (Err error.NoMemory) new = Starves old said new
+Answers old said (Err (error.Refused f)) new = (said ≡ Err f) × (new ≡ old)
+
+-- the same of line n, by which a refusal is told
+abbrev pub AnswersLine : {A : Type 0} → ℕ → Names → Result (A × Names) Refusal → Result A ProgramFault → Names → Type 0
+AnswersLine n old said (Ok x) new = (said ≡ Ok (x, new)) × Grows most_tokens old new
+AnswersLine n old said (Err fault.NoMemory) new = Starves old said new
+AnswersLine n old said (Err (fault.BadLine line)) new = (line ≡ n) × (said ≡ Err refusal.BadLine) × (new ≡ old)
+AnswersLine n old said (Err (fault.SizeRange line)) new = (line ≡ n) × (said ≡ Err refusal.SizeRange) × (new ≡ old)
+AnswersLine n old said (Err (fault.TooDeep line)) new = (line ≡ n) × (said ≡ Err refusal.TooDeep) × (new ≡ old)
+AnswersLine n old said (Err (fault.TooLong line)) new = (line ≡ n) × (said ≡ Err refusal.TooLong) × (new ≡ old)
+AnswersLine n old said (Err (fault.NotFalling line)) new = (line ≡ n) × (said ≡ Err refusal.NotFalling) × (new ≡ old)
+AnswersLine n old said (Err (fault.Missing word)) new = ⊥

@@ -1,0 +1,71 @@
+-- The lines of a whole program.
+use Rattle.std.specs.Prelude.{◌≡◌, ◌+◌, ◌*◌, ◌≤◌, ◌⊎◌, ℕ, List, [], ◌∷◌, length, Result, Ok, Err}
+use Rattle.filter_polarity.specs.meaning.Program.{ProgramValue}
+use Rattle.conditions.specs.meaning.Written.{most_tokens}
+use Rattle.line_fields.specs.meaning.Names.{Names, most_names}
+use Rattle.program_grammar.specs.declared.fault.ProgramFault.{ProgramFault}
+use Rattle.program_grammar.specs.declared.fault.ProgramFault.TheVariants as fault
+use Rattle.program_grammar.specs.declared.fault.ReadError.TheVariants.{Refused}
+use Rattle.program_grammar.specs.declared.fault.Refusal.{Refusal}
+use Rattle.program_grammar.specs.declared.header.HeaderReader.{HeaderReader}
+use Rattle.program_grammar.specs.declared.header.HeaderReader.TheVariants as header
+use Rattle.program_grammar.specs.declared.header.HeaderStep.{HeaderStep}
+use Rattle.program_grammar.specs.declared.header.HeaderStep.TheVariants.{More, Ready}
+use Rattle.program_grammar.specs.calls.Answers.{HasRoom, Starves}
+use Rattle.program_grammar.specs.calls.Faults.{fault_at}
+use Rattle.program_grammar.specs.meaning.Header.{awaited, header_said}
+
+-- what lines say, or the first refusal among them, and the names then
+abbrev pub Judged : Type 0
+Judged = Result ProgramValue ProgramFault × Names
+
+-- what a line leads to, by what the lines behind it say
+abbrev pub judged_by : (HeaderReader → Names → Judged) → ℕ → Names → Result (HeaderStep × Names) Refusal → Judged
+judged_by later number names (Ok (More next, after)) = later next after
+judged_by later number names (Ok (Ready p, after)) = (Ok p, after)
+judged_by later number names (Err f) = (Err (fault_at (Refused f) number), names)
+
+-- The lines from this number on, of which the first is the one that is awaited. Where they end early, the word
+-- that is missing is told.
+abbrev pub lines_said : HeaderReader → ℕ → List (List ℕ) → Names → Judged
+lines_said h number [] names = (Err (fault.Missing (awaited h)), names)
+lines_said h number (line ∷ lines) names = judged_by (λ next after. lines_said next (number + 1) lines after) number names (header_said h line names)
+
+abbrev pub program_said : List (List ℕ) → Names → Judged
+program_said lines names = lines_said header.Mode 1 lines names
+
+-- there is room for the labels of each line
+abbrev pub fits_next : (HeaderReader → Names → Type 0) → Result (HeaderStep × Names) Refusal → Type 0
+fits_next later (Ok (More next, after)) = later next after
+fits_next later said = Unit {0}
+
+abbrev pub LinesFit : HeaderReader → List (List ℕ) → Names → Type 0
+LinesFit h [] names = Unit {0}
+LinesFit h (line ∷ lines) names = HasRoom names (header_said h line names) × fits_next (λ next after. LinesFit next lines after) (header_said h line names)
+
+-- how many conditions are still to come
+abbrev pub conditions_left : HeaderReader → ℕ
+conditions_left header.Mode = 2
+conditions_left (header.Size m) = 2
+conditions_left (header.Filter m n) = 2
+conditions_left (header.Match n f) = 1
+conditions_left (header.Begin n f c) = 0
+
+-- there is room for their labels, whatever they are
+abbrev pub RoomFor : HeaderReader → Names → Type 0
+RoomFor h names = length names + conditions_left h * most_tokens ≤ most_names
+
+-- memory was wanted at one of the lines, behind those that led on
+abbrev pub starves_next : (HeaderReader → Names → Type 0) → Result (HeaderStep × Names) Refusal → Type 0
+starves_next later (Ok (More next, after)) = later next after
+starves_next later said = ⊥
+
+abbrev pub LinesStarve : HeaderReader → List (List ℕ) → Names → Names → Type 0
+LinesStarve h [] names new = ⊥
+LinesStarve h (line ∷ lines) names new =
+    Starves names (header_said h line names) new ⊎ starves_next (λ next after. LinesStarve next lines after new) (header_said h line names)
+
+-- the answer is what the lines say, and the names are those then; or memory was wanted
+abbrev pub ReadsProgram : List (List ℕ) → Names → Result ProgramValue ProgramFault → Names → Type 0
+ReadsProgram lines old (Err fault.NoMemory) new = LinesStarve header.Mode lines old new
+ReadsProgram lines old result new = program_said lines old ≡ (result, new)

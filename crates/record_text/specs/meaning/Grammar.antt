@@ -1,0 +1,74 @@
+-- What a line of a text of records says.
+use Rattle.std.specs.Prelude.{ℕ, Bool, ◌&&◌, List, [], ◌∷◌, length, eqb, nat_lt, nat_le, codes, Option, None, Some, if◌then◌else◌}
+use Rattle.std.specs.List.{slice_split, list_all}
+use Rattle.std.specs.Option.{option_map, option_and_then}
+use Rattle.std.specs.Ordering.{is_eq}
+use Rattle.std.specs.Str.{bytes_eq}
+use Rattle.graph_types.specs.declared.member.Member.{Member}
+use Rattle.graph_types.specs.declared.member.Member.TheVariants as member
+use Rattle.graph_types.specs.meaning.Piece.{PieceValue, is_ascending, mode_cmp, mode_of, most_members}
+use Rattle.line_fields.specs.meaning.Fields.{words_of, number_of, id_of, is_nothing_words}
+use Rattle.record_text.specs.declared.read.RecordLine.{RecordLine}
+use Rattle.record_text.specs.declared.read.RecordLine.TheVariants.{Nothing, Rem, Add, Done}
+
+abbrev pub is_dash : ℕ → Bool
+is_dash b = eqb b 45
+
+-- two ends make an edge where the first is below the second
+abbrev pub edge_from : ℕ → ℕ → Option Member
+edge_from x y = if nat_lt x y then Some (member.Edge (x, y)) else None
+
+-- the edge that two words say, an id each
+abbrev pub edge_said : List ℕ → List ℕ → Option Member
+edge_said low high = option_and_then (λ x. option_and_then (edge_from x) (id_of high)) (id_of low)
+
+-- a vertex is `ID`, and an edge is `ID-ID`
+abbrev pub member_of_parts : List (List ℕ) → Option Member
+member_of_parts (id ∷ []) = option_map (λ v. member.Vertex v) (id_of id)
+member_of_parts (low ∷ high ∷ []) = edge_said low high
+member_of_parts parts = None
+
+-- the member that a word says, by its parts round dashes
+abbrev pub member_of : List ℕ → Option Member
+member_of word = member_of_parts (slice_split is_dash word)
+
+-- the members that some words say, where each of them says one
+abbrev pub members_said : List (List ℕ) → Option (List Member)
+members_said [] = Some []
+members_said (word ∷ words) = option_and_then (λ m. option_map (λ members. m ∷ members) (members_said words)) (member_of word)
+
+abbrev pub are_alike : Member → Member → Bool
+are_alike m n = is_eq (mode_cmp (mode_of m) (mode_of n))
+
+-- 1 to 8 members make a piece where they are all vertices or all edges, and ascend
+abbrev pub piece_made : List Member → Option PieceValue
+piece_made [] = None
+piece_made (m ∷ members) =
+    if list_all (are_alike m) members && is_ascending (m ∷ members) && nat_le (length (m ∷ members)) most_members
+    then Some (record { mode = mode_of m; members = m ∷ members })
+    else None
+
+-- the piece that some words say
+abbrev pub piece_said : List (List ℕ) → Option PieceValue
+piece_said words = option_and_then piece_made (members_said words)
+
+-- a timestamp is 1 to 20 digits
+abbrev pub stamp_of : List ℕ → Option ℕ
+stamp_of word = number_of 20 word
+
+-- `REM T MEMBER ..`, `NEW T MEMBER ..` or `DONE T`
+abbrev pub record_said : List (List ℕ) → Option RecordLine
+record_said (word ∷ stamp ∷ []) = if bytes_eq word (codes "DONE") then option_map (λ t. Done t) (stamp_of stamp) else None
+record_said (word ∷ stamp ∷ members) =
+    if bytes_eq word (codes "REM") then option_and_then (λ t. option_map (λ piece. Rem t piece) (piece_said members)) (stamp_of stamp)
+    else if bytes_eq word (codes "NEW") then option_and_then (λ t. option_map (λ piece. Add t piece) (piece_said members)) (stamp_of stamp)
+    else None
+record_said words = None
+
+-- what the words of a line say, where they are in one of these forms, or nothing at all
+abbrev pub line_said : List (List ℕ) → Option RecordLine
+line_said words = if is_nothing_words words then Some Nothing else record_said words
+
+-- what a line says whose CR was dropped
+abbrev pub record_of : List ℕ → Option RecordLine
+record_of line = line_said (words_of line)

@@ -1,0 +1,52 @@
+-- The records of a timestamp, as text.
+use Rattle.std.specs.Prelude.{ℕ, zero, suc, ◌-◌, List, [], ◌∷◌, ◌++◌, codes, decimal}
+use Rattle.std.specs.List.{flat_map}
+use Rattle.graph_types.specs.meaning.Graph.{Graph}
+use Rattle.graph_types.specs.declared.member.Member.{Member}
+use Rattle.graph_types.specs.declared.member.Member.TheVariants as member
+use Rattle.graph_types.specs.declared.update.Update.{Update}
+use Rattle.mining_model.specs.meaning.Step.{snapshot, after}
+use Rattle.mining_model.specs.meaning.Embeddings.{Pattern}
+use Rattle.mining_model.specs.meaning.Changes.{gone, come}
+
+-- a vertex is its number; an edge is the numbers of its ends round a dash
+abbrev pub member_text : Member → List ℕ
+member_text (member.Vertex v) = decimal v
+member_text (member.Edge e) = decimal e.0 ++ codes "-" ++ decimal e.1
+
+-- a space, and then these bytes
+abbrev pub spaced : List ℕ → List ℕ
+spaced bytes = codes " " ++ bytes
+
+-- a word, a timestamp and the members, parted by single spaces
+abbrev pub record_line : List ℕ → ℕ → List Member → List ℕ
+record_line word t members = word ++ spaced (decimal t) ++ flat_map (λ m. spaced (member_text m)) members ++ codes "\n"
+
+-- a line for each piece
+abbrev pub records_text : List ℕ → ℕ → List (List Member) → List ℕ
+records_text word t pieces = flat_map (record_line word t) pieces
+
+-- a REM line for each piece that goes, and then a NEW line for each that comes
+abbrev pub delta_text : ℕ → List (List Member) → List (List Member) → List ℕ
+delta_text t rem add = records_text (codes "REM") t rem ++ records_text (codes "NEW") t add
+
+abbrev pub done_text : ℕ → List ℕ
+done_text t = codes "DONE " ++ decimal t ++ codes "\n"
+
+-- the text of timestamp t, at which one graph follows another
+abbrev pub step_text : Pattern → Graph → Graph → ℕ → List ℕ
+step_text pattern before now t = delta_text t (gone pattern before now) (come pattern before now) ++ done_text t
+
+-- the text of timestamp t of some updates
+abbrev pub text_at : Pattern → List Update → ℕ → List ℕ
+text_at pattern us t = step_text pattern (snapshot us (t - 1)) (snapshot us t) t
+
+-- the text of timestamps 1 to m of some updates
+abbrev pub text_upto : Pattern → List Update → ℕ → List ℕ
+text_upto pattern us zero = []
+text_upto pattern us (suc m) = text_upto pattern us m ++ text_at pattern us (suc m)
+
+-- the text of some updates from timestamp t + 1 on, where g is the graph before them
+abbrev pub text_from : Pattern → Graph → ℕ → List Update → List ℕ
+text_from pattern g t [] = []
+text_from pattern g t (u ∷ us) = step_text pattern g (after g u) (suc t) ++ text_from pattern (after g u) (suc t) us

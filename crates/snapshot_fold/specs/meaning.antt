@@ -1,0 +1,7 @@
+-- What is meant.
+pub mod FoldState
+pub mod Pieces
+pub mod Taking
+pub mod FoldText
+pub mod Folding
+pub mod Records

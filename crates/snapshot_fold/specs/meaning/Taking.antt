@@ -1,0 +1,64 @@
+-- What a record does to a fold, or its first fault.
+use Rattle.std.specs.Prelude.{◌≡◌, ℕ, ◌+◌, Bool, false, not, ◌&&◌, eqb, Option, None, Some, Result, Ok, Err, if◌then◌else◌}
+use Rattle.std.specs.Option.{is_none}
+use Rattle.std.specs.Ordering.{is_eq}
+use Rattle.graph_types.specs.declared.ids.Mode.{Mode}
+use Rattle.graph_types.specs.meaning.Piece.{PieceValue, mode_cmp}
+use Rattle.record_text.specs.declared.read.RecordLine.{RecordLine}
+use Rattle.record_text.specs.declared.read.RecordLine.TheVariants.{Nothing, Rem, Add, Done}
+use Rattle.snapshot_fold.specs.declared.fault.FoldFault.{FoldFault}
+use Rattle.snapshot_fold.specs.declared.fault.FoldFault.TheVariants.{MixedModes, OutOfOrder, AddsPresent, RemovesAbsent, NoMemory}
+use Rattle.snapshot_fold.specs.meaning.FoldState.{FoldState}
+use Rattle.snapshot_fold.specs.meaning.Pieces.{is_above, is_among, with_piece, without_piece}
+
+abbrev pub differs : Option Mode → Mode → Bool
+differs None mode = false
+differs (Some first) mode = not (is_eq (mode_cmp first mode))
+
+-- a piece was accepted before, and the first one was of another mode
+abbrev pub is_of_other_mode : FoldState → PieceValue → Bool
+is_of_other_mode s p = differs s.mode p.mode
+
+-- the timestamp is the one behind the last that is done
+abbrev pub is_open : FoldState → ℕ → Bool
+is_open s t = eqb t (s.done + 1)
+
+-- within a timestamp the pieces that go ascend, and stand before those that come
+abbrev pub goes_in_order : FoldState → ℕ → PieceValue → Bool
+goes_in_order s t p = is_open s t && is_none s.last_new && is_above s.last_rem p
+
+-- the pieces that come ascend too
+abbrev pub comes_in_order : FoldState → ℕ → PieceValue → Bool
+comes_in_order s t p = is_open s t && is_above s.last_new p
+
+-- after a piece went; all that are accepted are of one mode
+abbrev pub after_rem : FoldState → PieceValue → FoldState
+after_rem s p = record s { mode = Some p.mode; held = without_piece s.held p; last_rem = Some p }
+
+-- after a piece came
+abbrev pub after_new : FoldState → PieceValue → FoldState
+after_new s p = record s { mode = Some p.mode; held = with_piece s.held p; last_new = Some p }
+
+-- after the line that closes timestamp t
+abbrev pub after_done : FoldState → ℕ → FoldState
+after_done s t = record s { done = t; settled = s.held; last_rem = None; last_new = None }
+
+-- the fold behind a record, or the record's first fault
+abbrev pub taken : FoldState → RecordLine → Result FoldState FoldFault
+taken s Nothing = Ok s
+taken s (Rem t p) =
+    if is_of_other_mode s p then Err MixedModes
+    else if not (goes_in_order s t p) then Err OutOfOrder
+    else if is_among s.held p then Ok (after_rem s p)
+    else Err RemovesAbsent
+taken s (Add t p) =
+    if is_of_other_mode s p then Err MixedModes
+    else if not (comes_in_order s t p) then Err OutOfOrder
+    else if is_among s.held p then Err AddsPresent
+    else Ok (after_new s p)
+taken s (Done t) = if is_open s t then Ok (after_done s t) else Err OutOfOrder
+
+-- a refusal is the record's first fault, or want of memory where it has none
+abbrev pub IsRefusal : Result FoldState FoldFault → FoldFault → Type 0
+IsRefusal (Ok behind) fault = fault ≡ NoMemory
+IsRefusal (Err first) fault = fault ≡ first

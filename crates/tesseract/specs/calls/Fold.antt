@@ -1,0 +1,62 @@
+-- What folding a text of records leaves on its sink, by how it ended.
+use Rattle.std.specs.Prelude.{◌≡◌, ℕ, List, Option, Some, Ok, Err}
+use Rattle.std.specs.Io.KnownBytes.{Appends}
+use Rattle.graph_types.specs.meaning.Piece.{PieceValue, members_of_all}
+use Rattle.job_io.specs.calls.Ends.{BothKnown, AppendsFront}
+use Rattle.job_io.specs.meaning.Lines.{lines_of}
+use Rattle.record_text.specs.meaning.Listing.{listing_text}
+use Rattle.snapshot_fold.specs.declared.folding.FoldStop.{FoldStop}
+use Rattle.snapshot_fold.specs.declared.folding.FoldStop.TheVariants as stop
+use Rattle.snapshot_fold.specs.meaning.FoldText.{fold_text}
+use Rattle.snapshot_fold.specs.meaning.Folding.{folded}
+use Rattle.snapshot_fold.specs.calls.Folds.{IsUnended, stamp_folded}
+use Rattle.tesseract.specs.declared.status.Status.{Status}
+use Rattle.tesseract.specs.declared.status.Status.TheVariants as status
+use Rattle.tesseract.specs.declared.status.InputKind.TheVariants as input
+use Rattle.tesseract.specs.declared.status.LimitKind.TheVariants as limit
+
+-- how a stop of a fold is told
+abbrev pub stop_status : FoldStop → Status
+stop_status stop.NoMemory = status.NoMemory
+stop_status stop.ReadFault = status.ReadFault
+stop_status (stop.BadLine n) = status.BadInput n input.BadLine
+stop_status (stop.MixedModes n) = status.BadInput n input.MixedModes
+stop_status (stop.OutOfOrder n) = status.BadInput n input.OutOfOrder
+stop_status (stop.AddsPresent n) = status.BadInput n input.AddsPresent
+stop_status (stop.RemovesAbsent n) = status.BadInput n input.RemovesAbsent
+stop_status (stop.NotDone n) = status.BadInput n input.NotDone
+stop_status (stop.TooLong n) = status.Limit limit.LineBytes n
+stop_status (stop.TooMany n) = status.Limit limit.Lines n
+
+-- The lines come to these pieces: those that the text tells of at the timestamp that is named, or else at
+-- the last one that is done.
+pub record ComesTo (most : ℕ) (at : Option ℕ) (bytes : List ℕ) (pieces : List PieceValue) : Type 0 where
+  pub pieces_are : folded most at (lines_of bytes) ≡ Ok pieces
+  pub told : fold_text bytes (stamp_folded at bytes) ≡ Some pieces
+
+-- The lines come to a stop, and this is how it is told.
+pub record StopsAs (most : ℕ) (at : Option ℕ) (bytes : List ℕ) (why : Status) : Type 0 where
+  pub stop : FoldStop
+  pub stop_is : folded most at (lines_of bytes) ≡ Err stop
+  pub why_is : why ≡ stop_status stop
+
+-- a line for each piece
+abbrev pub pieces_text : List PieceValue → List ℕ
+pieces_text pieces = listing_text (members_of_all pieces)
+
+-- What folding leaves, by its status: the pieces are written; or a front of them where the sink failed; or
+-- nothing. The source had left0 and has `left`, the sink had written0 and has `written`, where they tell;
+-- `at` is the timestamp that is named, if one is, and at most `most` lines are allowed.
+abbrev pub Folds : ℕ → Option ℕ → Option (List ℕ) → Option (List ℕ) → Option (List ℕ) →
+    Option (List ℕ) → Status → Type 0
+Folds most at left0 left written0 written status.Ok =
+    BothKnown left0 left (λ bytes is.
+    (pieces : List PieceValue) × ComesTo most at bytes pieces × Appends written0 written (pieces_text pieces))
+Folds most at left0 left written0 written status.WriteFault =
+    BothKnown left0 left (λ bytes is.
+    (pieces : List PieceValue) × ComesTo most at bytes pieces × AppendsFront written0 written (pieces_text pieces))
+Folds most at left0 left written0 written status.NoMemory = written ≡ written0
+Folds most at left0 left written0 written status.ReadFault =
+    (written ≡ written0) × BothKnown left0 left (IsUnended most at)
+Folds most at left0 left written0 written why =
+    (written ≡ written0) × BothKnown left0 left (λ bytes is. StopsAs most at bytes why)

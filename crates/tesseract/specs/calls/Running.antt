@@ -1,0 +1,91 @@
+-- What a run has read and written so far, and what it has when its job ends.
+use Rattle.std.specs.Prelude.{◌≡◌, ℕ, suc, ◌⊎◌, List, [], ◌∷◌, ◌++◌, IsTrue, false, Option, None}
+use Rattle.job_io.specs.calls.Ends.{BothKnown, PassesOn}
+use Rattle.job_io.specs.meaning.Lines.{Line, Reading, lines_of, whole_lines_of, GivesEnd, StopsInLine}
+use Rattle.tesseract.specs.declared.status.Status.{Status}
+use Rattle.tesseract.specs.declared.status.Status.TheVariants as status
+use Rattle.tesseract.specs.meaning.Job.{Stage, refused, judged, ended, verdict, text_of, end_of}
+use Rattle.tesseract.specs.calls.Progress.{Reached}
+use Rattle.tesseract.specs.calls.Run.{IsJob, IsFrontOfJob}
+
+-- The lines so far are all that LFs ended in the bytes given: whatever follows them adds its own.
+pub record WholeSoFar (bytes is : List ℕ) (gone : List Line) (reader : Reading) : Type 0 where
+  pub finished : IsTrue reader.line.whole
+  pub given : List ℕ
+  pub split : bytes ≡ given ++ (reader.held ++ is)
+  pub whole_lines : (more : List ℕ) →
+      whole_lines_of (given ++ more) ≡ gone ++ whole_lines_of more
+
+-- The last line was given, and no LF ended it.
+pub record IsBehindLast (is : List ℕ) (reader : Reading) : Type 0 where
+  pub unfinished : reader.line.whole ≡ false
+  pub nothing : reader.held ++ is ≡ []
+
+-- Of the input `bytes` the lines so far were read, and `is` is left in the source; `text` belongs
+-- to these lines, and t is their last timestamp.
+pub record AtLine (most : ℕ) (bytes is text : List ℕ) (reader : Reading) (stage : Stage) (t : ℕ) :
+    Type 0 where
+  pub gone : List Line
+  pub lines : lines_of bytes ≡ gone ++ lines_of (reader.held ++ is)
+  pub reached : Reached most gone text reader.number t stage
+  pub whole : WholeSoFar bytes is gone reader ⊎ IsBehindLast is reader
+
+-- What a run has come to between two lines, since its source had left0 and its sink had written0.
+pub record Running (most : ℕ) (left0 left written0 written : Option (List ℕ)) (page : List ℕ)
+    (reader : Reading) (stage : Stage) (t : ℕ) : Type 0 where
+  pub text : List ℕ
+  pub passed : PassesOn written0 [] written page text
+  pub known : BothKnown left0 left (λ bytes is. AtLine most bytes is text reader stage t)
+
+-- The job ends where no line follows.
+pub record EndsClean (old new : Reading) (was is : List ℕ) (stage : Stage) (why : Status) :
+    Type 0 where
+  pub gives_end : GivesEnd old new was is
+  pub why_is : why ≡ end_of (ended old.number stage None)
+
+-- The job ends at the next line, which is refused.
+pub record EndsRefused (most : ℕ) (to_come : List ℕ) (n : ℕ) (stage : Stage) (why : Status) :
+    Type 0 where
+  pub line : Line
+  pub others : List Line
+  pub follows : lines_of to_come ≡ line ∷ others
+  pub refused_is : judged most (suc n) stage line.bytes ≡ refused why
+
+-- The job ends because the source failed.
+pub record EndsUnread (old new : Reading) (was is : List ℕ) (why : Status) : Type 0 where
+  pub why_is : why ≡ status.ReadFault
+  pub stops : StopsInLine old new was is
+
+-- Why a job ends after some lines.
+abbrev pub Ends : ℕ → Reading → Reading → List ℕ → List ℕ → Stage → Status → Type 0
+Ends most old new was is stage why =
+    EndsClean old new was is stage why
+    ⊎ (EndsRefused most (old.held ++ was) old.number stage why
+    ⊎ (EndsUnread old new was is why ⊎ (why ≡ status.NoMemory)))
+
+-- what a run ends with once its text is out
+abbrev pub IsEnd : Status → Type 0
+IsEnd status.Usage = ⊥
+IsEnd status.WriteFault = ⊥
+IsEnd why = Unit {0}
+
+-- a claim about the text where the source failed, none where memory was wanted, and another where the
+-- job came to its end
+abbrev pub IfUnread : Status → Type 0 → Type 0 → Type 0
+IfUnread status.ReadFault unread read = unread
+IfUnread status.NoMemory unread read = Unit {0}
+IfUnread why unread read = read
+
+-- `text` is a front of the input's text.
+abbrev pub IsFrontOfText : ℕ → List ℕ → List ℕ → Type 0
+IsFrontOfText most bytes text =
+    (more : List ℕ) × (text_of (verdict most (lines_of bytes)) ≡ text ++ more)
+
+-- What a run has when it ends: its text, passed on but for what the page holds.
+pub record Ended (most : ℕ) (left0 left written0 written : Option (List ℕ)) (page : List ℕ)
+    (why : Status) : Type 0 where
+  pub text : List ℕ
+  pub passed : PassesOn written0 [] written page text
+  pub front : BothKnown left0 left (λ bytes is. IsFrontOfText most bytes text)
+  pub job : BothKnown left0 left (λ bytes is.
+      IfUnread why (IsFrontOfJob most bytes is text) (IsJob most bytes text why))

@@ -1,0 +1,4 @@
+-- What is meant.
+pub mod Job
+pub mod Status
+pub mod Commands
