@@ -3,7 +3,7 @@ use Rattle.std.proofs.Common.{◌≡◌, ℕ, Bool, true, false, ◌&&◌, List,
 use Rattle.std.specs.Option.{option_map, option_map_or, option_and_then}
 use Rattle.command_words.specs.declared.command.Options.{Options}
 use Rattle.command_words.specs.declared.command.Verb.{Verb}
-use Rattle.command_words.specs.meaning.Words.{Setting, fits, is_in_order, options_of, options_said, settings_of}
+use Rattle.command_words.specs.meaning.Words.{Setting, setting_fits, is_in_order, options_of, options_of_words, settings_of}
 use Rattle.command_words.proofs.Splitting.{after}
 
 -- the words are settings in order
@@ -21,7 +21,7 @@ never (Some settings) = refl
 
 module _ (verb : Verb) (s : Setting) (words later : List (List ℕ)) (first : settings_of words ≡ after s later) where
   abbrev with_first : List Setting → Bool
-  with_first settings = fits verb s settings && is_in_order verb settings
+  with_first settings = setting_fits verb s settings && is_in_order verb settings
 
   by_first : are_in_order verb words ≡ option_map_or with_first (settings_of later) false
   by_first = ap (λ o. option_map_or (is_in_order verb) o false) first ∙ by_later (settings_of later)
@@ -30,26 +30,26 @@ module _ (verb : Verb) (s : Setting) (words later : List (List ℕ)) (first : se
       by_later None = refl
       by_later (Some settings) = refl
 
-  pub out_of_order : ((settings : List Setting) → settings_of later ≡ Some settings → fits verb s settings ≡ false) → are_in_order verb words ≡ false
+  pub out_of_order : ((settings : List Setting) → settings_of later ≡ Some settings → setting_fits verb s settings ≡ false) → are_in_order verb words ≡ false
   out_of_order unfit =
       by_first
       ∙ alike with_first (λ settings. false) (settings_of later) (λ settings are i. unfit settings are i && is_in_order verb settings)
       ∙ never (settings_of later)
 
-  pub in_order_as_later : ((settings : List Setting) → settings_of later ≡ Some settings → fits verb s settings ≡ true) → are_in_order verb words ≡ are_in_order verb later
+  pub in_order_as_later : ((settings : List Setting) → settings_of later ≡ Some settings → setting_fits verb s settings ≡ true) → are_in_order verb words ≡ are_in_order verb later
   in_order_as_later fit =
       by_first ∙ alike with_first (is_in_order verb) (settings_of later) (λ settings are i. fit settings are i && is_in_order verb settings)
 
 -- ---- what is said
 
-pub options_said-out_of_order : (verb : Verb) (words : List (List ℕ)) → are_in_order verb words ≡ false → options_said verb words ≡ None
+pub options_said-out_of_order : (verb : Verb) (words : List (List ℕ)) → are_in_order verb words ≡ false → options_of_words verb words ≡ None
 options_said-out_of_order verb words = by_settings (settings_of words)
   where
     by_settings : (o : Option (List Setting)) → option_map_or (is_in_order verb) o false ≡ false → option_and_then (λ settings. if is_in_order verb settings then Some (options_of settings) else None) o ≡ None
     by_settings None out = refl
     by_settings (Some settings) out = ap (λ b. if b then Some (options_of settings) else None) out
 
-pub options_said-in_order : (verb : Verb) (words : List (List ℕ)) (options : Options) → are_in_order verb words ≡ true → ((settings : List Setting) → settings_of words ≡ Some settings → options ≡ options_of settings) → options_said verb words ≡ Some options
+pub options_said-in_order : (verb : Verb) (words : List (List ℕ)) (options : Options) → are_in_order verb words ≡ true → ((settings : List Setting) → settings_of words ≡ Some settings → options ≡ options_of settings) → options_of_words verb words ≡ Some options
 options_said-in_order verb words options = by_settings (settings_of words)
   where
     by_settings : (o : Option (List Setting)) → option_map_or (is_in_order verb) o false ≡ true → ((settings : List Setting) → o ≡ Some settings → options ≡ options_of settings) →

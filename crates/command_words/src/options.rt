@@ -1,6 +1,6 @@
 ghost use Rattle.std.specs.Prelude.{◌≡◌, List, Some, false, map, string_bytes};
 ghost use Rattle.std.specs.Option.{option_map_or};
-ghost use Rattle.command_words.specs.meaning.Words.{fits as fits_before, has as has_option, is_in_order, is_number_within, number_named as number_given, options_said, settings_of, Setting as SettingValue, setting as setting_of, takes as takes_value};
+ghost use Rattle.command_words.specs.meaning.Words.{setting_fits as fits_before, has_option as has_option, is_in_order, is_number_within, number_named as number_given, options_of_words, settings_of, Setting as SettingValue, setting_of as setting_of, takes_value as takes_value};
 
 use crate::command::{Options, Verb};
 use crate::settings::{Setting, split_setting, value_named};
@@ -14,7 +14,7 @@ const MOST_AT: u64 = 4_000_000_000;
 
 /// The options that the words behind a command give.
 pub fn read_options(verb: Verb, words: &[String]) -> Option<Options>
-    ensures { result ≡ options_said verb (map string_bytes words.now) }
+    ensures { result ≡ options_of_words verb (map string_bytes words.now) }
 {
     if !are_in_order(verb, words) {
         return None;

@@ -1,7 +1,7 @@
 ghost use Rattle.std.specs.Prelude.{◌≡◌, ◌≤◌, ◌∷◌, List, IfSome, MatchOption, Some, None, length, map, string_bytes};
 ghost use Rattle.std.specs.List.{position};
 ghost use Rattle.std.specs.Option.{option_map};
-ghost use Rattle.command_words.specs.meaning.Words.{Setting as SettingValue, behind_dashes as text_behind_dashes, is_equals, parted, setting as setting_of, settings_of, value_named as value_given};
+ghost use Rattle.command_words.specs.meaning.Words.{Setting as SettingValue, after_dashes as text_behind_dashes, is_equals, setting_of_text, setting_of as setting_of, settings_of, value_named as value_given};
 
 /// An option as it stands on the command line: a name, and the value that it is given.
 #[derive(Clone, Copy)]
@@ -68,7 +68,7 @@ fn behind_dashes(word: &[u8]) -> Option<&[u8]>
 
 /// The name before the first `=`, and the value behind it.
 fn split_at_equals(text: &[u8]) -> Option<Setting<'_>>
-    ensures { option_map (λ s. setting_of s.name.now s.value.now) result ≡ parted text.now }
+    ensures { option_map (λ s. setting_of s.name.now s.value.now) result ≡ setting_of_text text.now }
 {
     let equals = equals_place(text)?;
     Some(Setting {

@@ -6,7 +6,7 @@ use Rattle.std.specs.Set.{distinct_count, is_member, unique_keys}
 use Rattle.std.proofs.lemmas.Bool.{true≢false, eqb-true, or_cases, or_left, or_right}
 use Rattle.std.proofs.lemmas.List.Sums.{sum_by-cons, sum_by-append}
 use Rattle.std.proofs.lemmas.Map.Made.{length-le_from_is_member}
-use Rattle.conditions.specs.meaning.Counts.{largest, pairs}
+use Rattle.conditions.specs.meaning.Counts.{largest_of, item_pairs}
 
 one_le : (a b : Bool) → (IsTrue a → IsTrue b) → cond a 1 0 ≤ cond b 1 0
 one_le true b h = subst (λ c. 1 ≤ cond c 1 0) (sym (h refl)) (omega arith)
@@ -27,12 +27,12 @@ module _ {X : Type 0} where
         | false ↦ λ _. omega (arith, here, rest)
       ] refl
 
-  pub largest-filter_le : (f g : X → ℕ) (kept : X → Bool) → ((x : X) → f x ≤ g x) → (xs : List X) → largest (map f (filter kept xs)) ≤ largest (map g xs)
+  pub largest-filter_le : (f g : X → ℕ) (kept : X → Bool) → ((x : X) → f x ≤ g x) → (xs : List X) → largest_of (map f (filter kept xs)) ≤ largest_of (map g xs)
   largest-filter_le f g kept below [] = omega arith
   largest-filter_le f g kept below (x ∷ xs) =
       let rest = largest-filter_le f g kept below xs in
       let here = below x in
-      elim (kept x) as (λ b. largest (map f (cond b (x ∷ filter kept xs) (filter kept xs))) ≤ max (g x) (largest (map g xs))) [
+      elim (kept x) as (λ b. largest_of (map f (cond b (x ∷ filter kept xs) (filter kept xs))) ≤ max (g x) (largest_of (map g xs))) [
         | true ↦ omega (arith, rest, here)
         | false ↦ omega (arith, rest)
       ]
@@ -97,18 +97,18 @@ distinct_count-map_filter_le f kept xs = distinct_count-le_of_keys (map f (filte
 -- pairs
 
 pub count_by-pairs_filter_le : (p r : ℕ × ℕ → Bool) (kept : ℕ → Bool) → ((x y : ℕ) → IsTrue (kept x) → IsTrue (kept y) → IsTrue (p (x, y)) → IsTrue (r (x, y))) →
-    (xs : List ℕ) → count_by p (pairs (filter kept xs)) ≤ count_by r (pairs xs)
+    (xs : List ℕ) → count_by p (item_pairs (filter kept xs)) ≤ count_by r (item_pairs xs)
 count_by-pairs_filter_le p r kept passes [] = omega arith
 count_by-pairs_filter_le p r kept passes (x ∷ xs) =
     let rest = count_by-pairs_filter_le p r kept passes xs in
     let here = with_first r xs in
-    elim (kept x) as (λ b. kept x ≡ b → count_by p (pairs (cond b (x ∷ filter kept xs) (filter kept xs))) ≤ count_by r (pairs (x ∷ xs))) [
+    elim (kept x) as (λ b. kept x ≡ b → count_by p (item_pairs (cond b (x ∷ filter kept xs) (filter kept xs))) ≤ count_by r (item_pairs (x ∷ xs))) [
       | true ↦ λ k.
           let firsts = count_by-filter_le (λ y. p (x, y)) (λ y. r (x, y)) kept (λ y. passes x y k) xs in
           omega (arith, with_first p (filter kept xs), here, firsts, rest)
       | false ↦ λ _. omega (arith, here, rest)
     ] refl
   where
-    with_first : (s : ℕ × ℕ → Bool) (ys : List ℕ) → count_by s (pairs (x ∷ ys)) ≡ count_by (λ y. s (x, y)) ys + count_by s (pairs ys)
+    with_first : (s : ℕ × ℕ → Bool) (ys : List ℕ) → count_by s (item_pairs (x ∷ ys)) ≡ count_by (λ y. s (x, y)) ys + count_by s (item_pairs ys)
     with_first s ys =
-        sum_by-append (λ e. cond (s e) 1 0) (map (λ (y : ℕ). (x, y)) ys) (pairs ys) ∙ ap (λ n. n + count_by s (pairs ys)) (count_by-map (λ (y : ℕ). (x, y)) s ys)
+        sum_by-append (λ e. cond (s e) 1 0) (map (λ (y : ℕ). (x, y)) ys) (item_pairs ys) ∙ ap (λ n. n + count_by s (item_pairs ys)) (count_by-map (λ (y : ℕ). (x, y)) s ys)

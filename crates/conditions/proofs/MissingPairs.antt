@@ -23,16 +23,16 @@ use Rattle.mining_model.specs.meaning.Connected.{IsIn, vertices_of}
 use Rattle.mining_model.proofs.Sides.{IsDistinct, IsIn-append_cases, IsIn-append_left, IsIn-append_right, IsIn-filter, IsIn-from_filter, IsIn-from_map, IsIn-map, list_any_at, list_any_place}
 use Rattle.mining_model.proofs.VertexPictures.{IsIn-vertices_of}
 use Rattle.conditions.specs.declared.condition.Term.TheVariants.{Missing}
-use Rattle.conditions.specs.meaning.Counts.{IsSimple, count, edges_of, is_apart, pairs}
+use Rattle.conditions.specs.meaning.Counts.{IsSimple, term_count, edges_of, is_apart, item_pairs}
 
 -- how many pairs there are
 
-length-pairs : (xs : List ℕ) → 2 * length (pairs xs) + length xs ≡ length xs * length xs
+length-pairs : (xs : List ℕ) → 2 * length (item_pairs xs) + length xs ≡ length xs * length xs
 length-pairs [] = refl
 length-pairs (x ∷ xs) =
     let rest = length-pairs xs in
-    let more : length (pairs (x ∷ xs)) ≡ length xs + length (pairs xs) = length-append (map (λ (y : ℕ). (x, y)) xs) (pairs xs) ∙ ap (λ n. n + length (pairs xs)) (length-map xs (λ (y : ℕ). (x, y))) in
-    squares (length (pairs (x ∷ xs))) (length (pairs xs)) (length xs) more rest
+    let more : length (item_pairs (x ∷ xs)) ≡ length xs + length (item_pairs xs) = length-append (map (λ (y : ℕ). (x, y)) xs) (item_pairs xs) ∙ ap (λ n. n + length (item_pairs xs)) (length-map xs (λ (y : ℕ). (x, y))) in
+    squares (length (item_pairs (x ∷ xs))) (length (item_pairs xs)) (length xs) more rest
   where
     squares : (all few n : ℕ) → all ≡ n + few → 2 * few + n ≡ n * n → 2 * all + suc n ≡ suc n * suc n
     squares all few n more rest = grind arith
@@ -81,25 +81,25 @@ rising_keys (e ∷ es) h =
 abbrev with_first : ℕ → ℕ → ℕ × ℕ
 with_first x y = (x, y)
 
-lower_first : (xs : List ℕ) (p : ℕ × ℕ) → Rises xs → IsIn p (pairs xs) → p.0 < p.1
+lower_first : (xs : List ℕ) (p : ℕ × ℕ) → Rises xs → IsIn p (item_pairs xs) → p.0 < p.1
 lower_first [] p rises i = absurd i
 lower_first (x ∷ xs) p rises i =
     ⊎_elim (λ j. let m = IsIn-from_map (with_first x) p xs j in subst (λ (q : ℕ × ℕ). q.0 < q.1) (sym m.2) (rises.0 m.0 m.1)) (lower_first xs p rises.1)
-    (IsIn-append_cases p (map (with_first x) xs) (pairs xs) i)
+    (IsIn-append_cases p (map (with_first x) xs) (item_pairs xs) i)
 
-first_in : (xs : List ℕ) (p : ℕ × ℕ) → IsIn p (pairs xs) → IsIn p.0 xs
+first_in : (xs : List ℕ) (p : ℕ × ℕ) → IsIn p (item_pairs xs) → IsIn p.0 xs
 first_in [] p i = absurd i
 first_in (x ∷ xs) p i =
     ⊎_elim (λ j. let m = IsIn-from_map (with_first x) p xs j in inl (ap (λ (q : ℕ × ℕ). q.0) m.2)) (λ j. inr (first_in xs p j))
-    (IsIn-append_cases p (map (with_first x) xs) (pairs xs) i)
+    (IsIn-append_cases p (map (with_first x) xs) (item_pairs xs) i)
 
-in_pairs : (xs : List ℕ) (x y : ℕ) → Rises xs → IsIn x xs → IsIn y xs → x < y → IsIn (x, y) (pairs xs)
+in_pairs : (xs : List ℕ) (x y : ℕ) → Rises xs → IsIn x xs → IsIn y xs → x < y → IsIn (x, y) (item_pairs xs)
 in_pairs [] x y rises i j less = absurd i
 in_pairs (z ∷ zs) x y rises (inl e) (inl f) less = absurd (omega (arith, e, f, less))
 in_pairs (z ∷ zs) x y rises (inl e) (inr j) less =
-    IsIn-append_left (x, y) (map (with_first z) zs) (pairs zs) (subst (λ w. IsIn (w, y) (map (with_first z) zs)) (sym e) (IsIn-map (with_first z) y zs j))
+    IsIn-append_left (x, y) (map (with_first z) zs) (item_pairs zs) (subst (λ w. IsIn (w, y) (map (with_first z) zs)) (sym e) (IsIn-map (with_first z) y zs j))
 in_pairs (z ∷ zs) x y rises (inr i) (inl f) less = let above = rises.0 x i in absurd (omega (arith, f, less, above))
-in_pairs (z ∷ zs) x y rises (inr i) (inr j) less = IsIn-append_right (x, y) (map (with_first z) zs) (pairs zs) (in_pairs zs x y rises.1 i j less)
+in_pairs (z ∷ zs) x y rises (inr i) (inr j) less = IsIn-append_right (x, y) (map (with_first z) zs) (item_pairs zs) (in_pairs zs x y rises.1 i j less)
 
 -- no pair stands twice
 
@@ -133,9 +133,9 @@ distinct_firsts x (y ∷ ys) rises = (
   distinct_firsts x ys rises.1,
 )
 
-distinct_pairs : (xs : List ℕ) → Rises xs → IsDistinct (pairs xs)
+distinct_pairs : (xs : List ℕ) → Rises xs → IsDistinct (item_pairs xs)
 distinct_pairs [] rises = tt
-distinct_pairs (x ∷ xs) rises = distinct_append (map (with_first x) xs) (pairs xs) (distinct_firsts x xs rises.1) (distinct_pairs xs rises.1) (λ p i j.
+distinct_pairs (x ∷ xs) rises = distinct_append (map (with_first x) xs) (item_pairs xs) (distinct_firsts x xs rises.1) (distinct_pairs xs rises.1) (λ p i j.
     let m = IsIn-from_map (with_first x) p xs i in
     let same = ap (λ (q : ℕ × ℕ). q.0) m.2 in
     let above = rises.0 p.0 (first_in xs p j) in
@@ -168,7 +168,7 @@ between x y less =
 
 module _ (g : Graph) (simple : IsSimple g) where
   abbrev all_pairs : List (ℕ × ℕ)
-  all_pairs = pairs (vertices_of g)
+  all_pairs = item_pairs (vertices_of g)
 
   abbrev is_joined_pair : ℕ × ℕ → Bool
   is_joined_pair p = has_edge g (edge_between p.0 p.1)
@@ -199,11 +199,11 @@ module _ (g : Graph) (simple : IsSimple g) where
       let down = length-le_from_is_member laws (edges_of g) (filter is_joined_pair all_pairs) of_edges pair_from_edge in
       omega (arith, up, down)
 
-  pub missing_and_edges : count Missing g + length (edges_of g) ≡ length (vertices_of g) * (length (vertices_of g) - 1) / 2
+  pub missing_and_edges : term_count Missing g + length (edges_of g) ≡ length (vertices_of g) * (length (vertices_of g) - 1) / 2
   missing_and_edges =
       let n = length (vertices_of g) in
       let all = length-filter_both is_joined_pair (is_apart g) (λ _. refl) all_pairs in
       let missing = length-filter (is_apart g) all_pairs in
       let half = halved (length all_pairs) n (length-pairs (vertices_of g)) in
-      let sum : count Missing g + length (edges_of g) ≡ length all_pairs = omega (arith, all, missing, joined_pairs) in
+      let sum : term_count Missing g + length (edges_of g) ≡ length all_pairs = omega (arith, all, missing, joined_pairs) in
       sum ∙ half

@@ -1,7 +1,7 @@
 ghost use Rattle.std.specs.Prelude.{◌≡◌, ◌↔◌, IsTrue, nat_le};
 ghost use Rattle.std.specs.List.{list_all};
 ghost use Rattle.conditions.specs.storage.Size.{IsSizeOf};
-ghost use Rattle.conditions.specs.meaning.Written.{are_numbers_within, is_sum_within, IsWithinLimits, most_times, written};
+ghost use Rattle.conditions.specs.meaning.Written.{are_numbers_within, is_sum_within, IsWithinLimits, most_times, written_size};
 
 use crate::condition::{Cond, Factor};
 use crate::size::{Size, sum_tokens};
@@ -47,7 +47,7 @@ impl Cond {
 
     fn size(&self) -> Size
         requires { IsTrue (are_numbers_within self.now) }
-        ensures { IsSizeOf (written self.now) result }
+        ensures { IsSizeOf (written_size self.now) result }
     {
         match self {
             Cond::True | Cond::False => Size::of_atom(1),

@@ -15,7 +15,7 @@ pub(crate) struct Size {
 impl Size {
     ghost use Rattle.std.specs.Prelude.{ℕ, ◌≡◌, ◌+◌, ◌≤◌, length, min, max};
     ghost use Rattle.conditions.specs.storage.Size.{IsSizeOf};
-    ghost use Rattle.conditions.specs.meaning.Written.{Written, depth_at, tokens_at, written_of};
+    ghost use Rattle.conditions.specs.meaning.Written.{WrittenSize, depth_at, tokens_at, written_size_by};
     ghost use Rattle.conditions.specs.declared.condition.Cond.TheOpen as form;
 
     /// What is no `not`, `and` or `or`.
@@ -31,7 +31,7 @@ impl Size {
 
     /// The negation of a condition of this size.
     pub(crate) fn negated(self) -> Size
-        ensures { (c : Written) → IsSizeOf c self → IsSizeOf (written_of (form.Not c)) result }
+        ensures { (c : WrittenSize) → IsSizeOf c self → IsSizeOf (written_size_by (form.Not c)) result }
     {
         let operand = self.at(2);
         Size {
@@ -43,23 +43,23 @@ impl Size {
 
     /// Two conditions with `and` between them.
     pub(crate) fn and(self, other: Size) -> Size
-        ensures { (c d : Written) → IsSizeOf c self → IsSizeOf d other →
-            IsSizeOf (written_of (form.And c d)) result }
+        ensures { (c d : WrittenSize) → IsSizeOf c self → IsSizeOf d other →
+            IsSizeOf (written_size_by (form.And c d)) result }
     {
         self.at(1).beside(1, other.at(2))
     }
 
     /// Two conditions with `or` between them.
     pub(crate) fn or(self, other: Size) -> Size
-        ensures { (c d : Written) → IsSizeOf c self → IsSizeOf d other →
-            IsSizeOf (written_of (form.Or c d)) result }
+        ensures { (c d : WrittenSize) → IsSizeOf c self → IsSizeOf d other →
+            IsSizeOf (written_size_by (form.Or c d)) result }
     {
         self.at(0).beside(0, other.at(1))
     }
 
     /// With parentheses, where it binds less than its place asks.
     fn at(self, asked: u8) -> Size
-        ensures { (c : Written) → IsSizeOf c self →
+        ensures { (c : WrittenSize) → IsSizeOf c self →
             IsSizeOf (record { binding = c.binding; tokens = tokens_at asked c; depth = depth_at asked c }) result }
     {
         if self.binding < asked {
@@ -75,7 +75,7 @@ impl Size {
 
     /// Both with a word between them.
     fn beside(self, binding: u8, other: Size) -> Size
-        ensures { (c d : Written) → IsSizeOf c self → IsSizeOf d other →
+        ensures { (c d : WrittenSize) → IsSizeOf c self → IsSizeOf d other →
             IsSizeOf (record { binding = binding; tokens = c.tokens + 1 + d.tokens; depth = max c.depth d.depth }) result }
     {
         Size {

@@ -14,15 +14,15 @@ use Rattle.conditions.specs.declared.condition.Cond.TheFolds.{map-Cond}
 use Rattle.conditions.specs.declared.condition.Factor.{Factor}
 use Rattle.conditions.specs.declared.condition.Op.{Op}
 use Rattle.conditions.specs.declared.condition.Op.TheVariants.{AtMost, Below, AtLeast, Above, Equal, Unequal}
-use Rattle.conditions.specs.meaning.Counts.{count}
-use Rattle.conditions.specs.meaning.Conditions.{compares, holds, holds_by, value}
-use Rattle.filter_polarity.specs.meaning.Polarity.{Polarity, bounds_above, bounds_below, falling, is_rising_sum, is_rising_term, polarity, polarity_of, rising}
+use Rattle.conditions.specs.meaning.Counts.{term_count}
+use Rattle.conditions.specs.meaning.Conditions.{comparison_holds, holds, holds_by, sum_value}
+use Rattle.filter_polarity.specs.meaning.Polarity.{Polarity, bounds_above, bounds_below, is_falling, is_rising_sum, is_rising_term, polarity, polarity_of, is_rising}
 use Rattle.conditions.proofs.Forms.{by_form, fold-form, of_form}
 use Rattle.filter_polarity.proofs.Parts.{count-picture}
 
 -- comparisons
 
-less_passes : (op : Op) (m n bound : ℕ) → m ≤ n → IsTrue (bounds_above op) → IsTrue (compares op n bound) → IsTrue (compares op m bound)
+less_passes : (op : Op) (m n bound : ℕ) → m ≤ n → IsTrue (bounds_above op) → IsTrue (comparison_holds op n bound) → IsTrue (comparison_holds op m bound)
 less_passes AtMost m n bound less above h = le-leb m bound (omega (arith, leb-true n bound h))
 less_passes Below m n bound less above h = lt-ltb m bound (omega (arith, ltb-true n bound h))
 less_passes AtLeast m n bound less above h = absurd (false≢true above)
@@ -30,7 +30,7 @@ less_passes Above m n bound less above h = absurd (false≢true above)
 less_passes Equal m n bound less above h = absurd (false≢true above)
 less_passes Unequal m n bound less above h = absurd (false≢true above)
 
-more_passes : (op : Op) (m n bound : ℕ) → m ≤ n → IsTrue (bounds_below op) → IsTrue (compares op m bound) → IsTrue (compares op n bound)
+more_passes : (op : Op) (m n bound : ℕ) → m ≤ n → IsTrue (bounds_below op) → IsTrue (comparison_holds op m bound) → IsTrue (comparison_holds op n bound)
 more_passes AtMost m n bound less below h = absurd (false≢true below)
 more_passes Below m n bound less below h = absurd (false≢true below)
 more_passes AtLeast m n bound less below h = le-leb bound n (omega (arith, leb-true bound m h))
@@ -66,13 +66,13 @@ either f r h t f' r' h' t' p q = record {
 }
 
 module _ (kind : Mode) (q : Graph) (members : List Member) (all : All (IsOfMode kind) members) where
-  value-picture : (sum : List Factor) → IsTrue (is_rising_sum kind sum) → value sum (picture q members) ≤ value sum q
+  value-picture : (sum : List Factor) → IsTrue (is_rising_sum kind sum) → sum_value sum (picture q members) ≤ sum_value sum q
   value-picture [] rises = omega arith
   value-picture (f ∷ sum) rises =
       let parts = and_parts (is_rising_term kind f.term) (is_rising_sum kind sum) rises in
       let here = mul-le-mul_left f.times (count-picture kind f.term q members all parts.0) in
       let rest = value-picture sum parts.1 in
-      omega (arith, here, rest, sum_by-cons (λ (e : Factor). e.times * count e.term q) f sum, sum_by-cons (λ (e : Factor). e.times * count e.term (picture q members)) f sum)
+      omega (arith, here, rest, sum_by-cons (λ (e : Factor). e.times * term_count e.term q) f sum, sum_by-cons (λ (e : Factor). e.times * term_count e.term (picture q members)) f sum)
 
   abbrev PassesBy : Polarity → (Graph → Bool) → Type 0
   PassesBy p h = Passes p.falls p.rises (h q) (h (picture q members))
@@ -97,8 +97,8 @@ module _ (kind : Mode) (q : Graph) (members : List Member) (all : All (IsOfMode 
       (λ c d p q. at_form (And c d) (both _ _ _ _ _ _ _ _ p q))
       (λ c d p q. at_form (Or c d) (either _ _ _ _ _ _ _ _ p q))
 
-  pub falling_passes : (c : Cond) → IsTrue (falling kind c) → IsTrue (holds c q) → IsTrue (holds c (picture q members))
+  pub falling_passes : (c : Cond) → IsTrue (is_falling kind c) → IsTrue (holds c q) → IsTrue (holds c (picture q members))
   falling_passes c f h = (passes c).forth f h
 
-  pub rising_passes : (c : Cond) → IsTrue (rising kind c) → IsTrue (holds c (picture q members)) → IsTrue (holds c q)
+  pub rising_passes : (c : Cond) → IsTrue (is_rising kind c) → IsTrue (holds c (picture q members)) → IsTrue (holds c q)
   rising_passes c r h = (passes c).back r h

@@ -13,11 +13,11 @@ use Rattle.graph_types.specs.declared.member.Member.{Member}
 use Rattle.graph_types.specs.declared.member.Member.TheVariants as member
 use Rattle.graph_types.proofs.Graph.{pair_cmp-IsAntisymmetric}
 use Rattle.mining_model.specs.meaning.Connected.{IsIn}
-use Rattle.mining_model.specs.meaning.Picture.{picture, touches, is_among, is_drawn}
+use Rattle.mining_model.specs.meaning.Picture.{picture, touches, has_member, is_drawn}
 use Rattle.mining_model.proofs.Sides.{list_any_at, list_any_place}
 use Rattle.conditions.specs.declared.condition.Cond.{Cond}
 use Rattle.conditions.specs.meaning.Conditions.{holds}
-use Rattle.filter_polarity.specs.meaning.Polarity.{falling}
+use Rattle.filter_polarity.specs.meaning.Polarity.{is_falling}
 use Rattle.filter_polarity.proofs.Passing.{falling_passes}
 
 -- to retain some keys of those that were retained
@@ -43,7 +43,7 @@ module _ (g : Graph) (members some : List Member) (within : (m : Member) → IsI
   drawn_within e h =
       ⊎_elim (λ t. or_left _ _ (any_within (member_eq (member.Edge e)) t))
       (λ t. let ends = and_parts _ _ t in
-      or_right (is_among members (member.Edge e)) _ (and_from _ _ (any_within (member_eq (member.Vertex e.0)) ends.0) (any_within (member_eq (member.Vertex e.1)) ends.1)))
+      or_right (has_member members (member.Edge e)) _ (and_from _ _ (any_within (member_eq (member.Vertex e.0)) ends.0) (any_within (member_eq (member.Vertex e.1)) ends.1)))
       (or_cases _ _ h)
 
   pub picture-picture : picture (picture g members) some ≡ picture g some
@@ -52,5 +52,5 @@ module _ (g : Graph) (members some : List Member) (within : (m : Member) → IsI
       let edges = retain_keys-again pair_cmp_total pair_cmp-IsAntisymmetric g.edges (is_drawn members) (is_drawn some) drawn_within in
       λ i. record { labels = labels i; edges = edges i }
 
-  pub falling_passes_down : (kind : Mode) (c : Cond) → IsTrue (falling kind c) → All (IsOfMode kind) some → IsTrue (holds c (picture g members)) → IsTrue (holds c (picture g some))
+  pub falling_passes_down : (kind : Mode) (c : Cond) → IsTrue (is_falling kind c) → All (IsOfMode kind) some → IsTrue (holds c (picture g members)) → IsTrue (holds c (picture g some))
   falling_passes_down kind c falls all h = subst (λ q. IsTrue (holds c q)) picture-picture (falling_passes kind (picture g members) some all c falls h)

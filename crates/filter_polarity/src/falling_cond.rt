@@ -1,5 +1,5 @@
 ghost use Rattle.std.specs.Prelude.{◌≡◌, IsTrue};
-ghost use Rattle.filter_polarity.specs.meaning.Polarity.{falling};
+ghost use Rattle.filter_polarity.specs.meaning.Polarity.{is_falling};
 
 use conditions::Cond;
 use graph_types::Mode;
@@ -16,7 +16,7 @@ impl Model for Falling {
     ghost use Rattle.std.specs.Prelude.{IsTrue};
     ghost use Rattle.std.specs.Coded.{codes};
     ghost use Rattle.conditions.specs.contracts.condition.Cond as conditions;
-    ghost use Rattle.filter_polarity.specs.meaning.Polarity.{falling};
+    ghost use Rattle.filter_polarity.specs.meaning.Polarity.{is_falling};
     ghost use Rattle.filter_polarity.specs.meaning.Program.{FallingValue};
 
     ghost Value = { FallingValue };
@@ -25,7 +25,7 @@ impl Model for Falling {
 
     ghost view = { λ f. record { mode = f.mode; cond = f.cond } };
 
-    ghost invariant = { λ f. IsTrue (falling f.mode f.cond) };
+    ghost invariant = { λ f. IsTrue (is_falling f.mode f.cond) };
 }
 
 /// A condition that isn't falling in the mode that was asked.
@@ -36,7 +36,7 @@ pub struct NotFalling {
 
 impl Falling {
     pub(crate) fn new(mode: Mode, cond: Cond) -> Falling
-        requires { IsTrue (falling mode cond) }
+        requires { IsTrue (is_falling mode cond) }
         ensures { result ≡ record { mode = mode; cond = cond } }
     {
         Falling { mode, cond }
@@ -52,7 +52,7 @@ impl Falling {
     /// The condition itself.
     pub fn cond(&self) -> &Cond
         ensures value { result.now ≡ self.now.cond }
-        ensures falls { IsTrue (falling self.now.mode self.now.cond) }
+        ensures falls { IsTrue (is_falling self.now.mode self.now.cond) }
     {
         &self.cond
     }

@@ -11,22 +11,22 @@ ghost use Rattle.mining_model.specs.meaning.Picture.{picture};
 ghost use Rattle.conditions.specs.declared.condition.Cond.{Cond};
 ghost use Rattle.conditions.specs.declared.condition.Term.{Term};
 ghost use Rattle.conditions.specs.declared.condition.Term.TheVariants.{Missing};
-ghost use Rattle.conditions.specs.meaning.Counts.{IsSimple, count, edges_of};
+ghost use Rattle.conditions.specs.meaning.Counts.{IsSimple, term_count, edges_of};
 ghost use Rattle.conditions.specs.meaning.Conditions.{holds};
-ghost use Rattle.filter_polarity.specs.meaning.Polarity.{falling, rising};
+ghost use Rattle.filter_polarity.specs.meaning.Polarity.{is_falling, is_rising};
 
 /// A falling condition that holds of a picture holds of each part of it, connected or not, also of the
 /// empty one.
 pub fn falling_passes_to_parts()
     ensures { (kind : Mode) (c : Cond) (q : Graph) (members : List Member) →
-        IsTrue (falling kind c) → All (IsOfMode kind) members →
+        IsTrue (is_falling kind c) → All (IsOfMode kind) members →
         IsTrue (holds c q) → IsTrue (holds c (picture q members)) }
 {}
 
 /// A rising condition that holds of a part of a picture holds of the picture.
 pub fn rising_passes_from_parts()
     ensures { (kind : Mode) (c : Cond) (q : Graph) (members : List Member) →
-        IsTrue (rising kind c) → All (IsOfMode kind) members →
+        IsTrue (is_rising kind c) → All (IsOfMode kind) members →
         IsTrue (holds c (picture q members)) → IsTrue (holds c q) }
 {}
 
@@ -40,7 +40,7 @@ pub fn picture_within_a_picture()
 /// A falling condition that holds of the picture of some members holds of the picture of fewer.
 pub fn falling_passes_to_fewer_members()
     ensures { (kind : Mode) (c : Cond) (g : Graph) (members some : List Member) →
-        IsTrue (falling kind c) → All (IsOfMode kind) some →
+        IsTrue (is_falling kind c) → All (IsOfMode kind) some →
         ((m : Member) → IsIn m some → IsIn m members) →
         IsTrue (holds c (picture g members)) → IsTrue (holds c (picture g some)) }
 {}

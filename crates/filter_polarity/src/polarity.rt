@@ -1,6 +1,6 @@
 ghost use Rattle.std.specs.Prelude.{◌≡◌, IsTrue, IfErr};
 ghost use Rattle.std.specs.Result.{OkIff};
-ghost use Rattle.filter_polarity.specs.meaning.Polarity.{bounds_above, bounds_below, falling, is_rising_sum, is_rising_term, rising};
+ghost use Rattle.filter_polarity.specs.meaning.Polarity.{bounds_above, bounds_below, is_falling, is_rising_sum, is_rising_term, is_rising};
 
 use conditions::{Cond, Factor, Op, Term};
 use crate::falling_cond::{Falling, NotFalling};
@@ -9,7 +9,7 @@ use graph_types::Mode;
 /// Takes a condition as falling, or gives it back where it isn't falling in this mode. It follows the
 /// condition's form alone, in time linear in its size.
 pub fn falling(cond: Cond, mode: Mode) -> Result<Falling, NotFalling>
-    ensures falls { OkIff result (IsTrue (falling mode cond)) (record { mode = mode; cond = cond }) }
+    ensures falls { OkIff result (IsTrue (is_falling mode cond)) (record { mode = mode; cond = cond }) }
     ensures handed_back { IfErr result (λ e. e.cond ≡ cond) }
 {
     if is_falling(mode, &cond) {
@@ -21,7 +21,7 @@ pub fn falling(cond: Cond, mode: Mode) -> Result<Falling, NotFalling>
 
 #[cycle(polarity)]
 fn is_falling(mode: Mode, cond: &Cond) -> bool
-    ensures { result ≡ falling mode cond.now }
+    ensures { result ≡ is_falling mode cond.now }
 {
     match cond {
         Cond::True | Cond::False => true,
@@ -34,7 +34,7 @@ fn is_falling(mode: Mode, cond: &Cond) -> bool
 
 #[cycle(polarity)]
 fn is_rising(mode: Mode, cond: &Cond) -> bool
-    ensures { result ≡ rising mode cond.now }
+    ensures { result ≡ is_rising mode cond.now }
 {
     match cond {
         Cond::True | Cond::False => true,

@@ -9,7 +9,7 @@ use Rattle.graph_types.specs.declared.ids.Mode.{Mode}
 use Rattle.graph_types.specs.declared.ids.Mode.TheVariants as mode
 use Rattle.graph_types.specs.declared.member.Member.{Member}
 use Rattle.graph_types.specs.declared.member.Member.TheVariants as member
-use Rattle.graph_types.specs.meaning.Piece.{PieceValue, IsPiece, CanJoin, HasLowerFirst, IsOfMode, mode_of, member_eq, most_members, joined, with_member}
+use Rattle.graph_types.specs.meaning.Piece.{PieceValue, IsPiece, CanJoin, HasLowerFirst, IsOfMode, mode_of, member_eq, most_members, with_joined, with_member}
 use Rattle.graph_types.specs.storage.Slots.{slot_of, slots_of, member_in, piece_in, place_from, IsPacked}
 use Rattle.graph_types.proofs.Lists.{All-insert, map-insert}
 use Rattle.graph_types.proofs.Members.{Found, JoinsAt, place_from-found, is_ascending-with_member}
@@ -64,7 +64,7 @@ slot_found p kind i slot live sound kind_is live_is within is =
 pub record Joins (p : PieceValue) (m : Member) (place : ℕ) : Type 0 where
   pub within : place ≤ length p.members
   pub can : CanJoin p m
-  pub sound : IsPiece (joined p m)
+  pub sound : IsPiece (with_joined p m)
   pub count : length (with_member p.members m) ≡ length p.members + 1
   pub slots : slots_of (with_member p.members m) ≡ insert (take (length p.members) (slots_of p.members)) place (slot_of m) ++ drop (length p.members + 1) (slots_of p.members)
 
@@ -126,9 +126,9 @@ holds_as : (q : PieceValue) → IsPiece q → (kind : Mode) (len : ℕ) (slots :
 holds_as q sound kind len slots kind_is len_is slots_are = rw (kind_is, len_is, slots_are) (packed q sound, piece_in-slots_of q sound)
 
 -- the fields with a slot put in hold the piece that was joined
-pub packed_joined : (p : PieceValue) (m : Member) (kind : Mode) (len : ℕ) (slots : List (ℕ × ℕ)) (place n : ℕ) (slot : ℕ × ℕ) (new : List (ℕ × ℕ)) → IsPacked kind len slots → piece_in kind len slots ≡ p → Joins p m place → n ≡ length p.members → slot_of m ≡ slot → new ≡ insert (take n slots) place slot ++ drop (n + 1) slots → IsPacked kind (len + 1) new × (piece_in kind (len + 1) new ≡ joined p m)
+pub packed_joined : (p : PieceValue) (m : Member) (kind : Mode) (len : ℕ) (slots : List (ℕ × ℕ)) (place n : ℕ) (slot : ℕ × ℕ) (new : List (ℕ × ℕ)) → IsPacked kind len slots → piece_in kind len slots ≡ p → Joins p m place → n ≡ length p.members → slot_of m ≡ slot → new ≡ insert (take n slots) place slot ++ drop (n + 1) slots → IsPacked kind (len + 1) new × (piece_in kind (len + 1) new ≡ with_joined p m)
 packed_joined p m kind len slots place n slot new held view joins n_is slot_is new_is =
     let slots_are : slots ≡ slots_of p.members = sym held.slots_are ∙ ap (λ q. slots_of q.members) view in
     let len_is : len ≡ length p.members = sym held.len_is ∙ ap (λ q. length q.members) view in
-    holds_as (joined p m) joins.sound kind (len + 1) new (ap (λ q. q.mode) view) (ap (λ k. k + 1) len_is ∙ sym joins.count)
+    holds_as (with_joined p m) joins.sound kind (len + 1) new (ap (λ q. q.mode) view) (ap (λ k. k + 1) len_is ∙ sym joins.count)
     (new_is ∙ (λ i. insert (take (n_is i) (slots_are i)) place (sym slot_is i) ++ drop (n_is i + 1) (slots_are i)) ∙ sym joins.slots)

@@ -8,7 +8,7 @@ use Rattle.std.specs.FinMap as map
 use Rattle.std.proofs.lemmas.Bool.{false≢true, eqb-true, ltb-true, lt-ltb, not-true, or_parts}
 use Rattle.std.proofs.lemmas.Bool.Decides.{nat_tests}
 use Rattle.graph_types.specs.meaning.Graph.{Graph, HasEnds, empty_graph, edge_between, has_vertex, has_edge, is_joined, ends_at, neighbours, pair_cmp, with_vertex, with_edge, without_vertex, without_edge}
-use Rattle.graph_types.specs.storage.Adjacency.{IsUndirected, Lists, goes_up, undirected, without_row, without_edges_to}
+use Rattle.graph_types.specs.storage.Adjacency.{IsUndirected, Lists, goes_up, undirected_graph, without_row, without_edges_to}
 use Rattle.graph_types.specs.meaning.Simple.{IsSimple}
 use Rattle.graph_types.specs.meaning.Orders.{pair_cmp_total}
 use Rattle.graph_types.proofs.Graph.{has_vertex-kept, has_vertex-without_vertex, joined-at, pair_cmp-IsAntisymmetric}
@@ -17,10 +17,10 @@ use Rattle.graph_types.proofs.Views.{none_from}
 use Rattle.graph_types.proofs.RowChanges.{same_graph, edge-kept, edge-with_edge, edge-without_edge, without_no_edge}
 
 -- an edge that is there may be had at its lower end
-pub edge-up : (g : Graph) (x y : ℕ) → map.get (undirected g).edges (x, y) ≡ cond (nat_lt x y) (map.get g.edges (x, y)) None
+pub edge-up : (g : Graph) (x y : ℕ) → map.get (undirected_graph g).edges (x, y) ≡ cond (nat_lt x y) (map.get g.edges (x, y)) None
 edge-up g x y = edge-kept g.edges goes_up (x, y)
 
-pub edge-below : (g : Graph) (x y : ℕ) → x < y → map.get (undirected g).edges (x, y) ≡ map.get g.edges (x, y)
+pub edge-below : (g : Graph) (x y : ℕ) → x < y → map.get (undirected_graph g).edges (x, y) ≡ map.get g.edges (x, y)
 edge-below g x y below = edge-up g x y ∙ ap (λ b. cond b (map.get g.edges (x, y)) None) (lt-ltb x y below)
 
 -- only an edge that goes up is looked for, and it is none of those that go down
@@ -36,21 +36,21 @@ module _ (g : Graph) (x y : ℕ) (below : x < y) where
   not_down : (a b : ℕ) → nat_lt a b ≡ true → (eqb a y && eqb b x) ≡ false
   not_down a b e = grind (arith, nat_tests)
 
-  pub put_both : (label : ℕ) → undirected (with_edge (with_edge g (x, y) label) (y, x) label) ≡ with_edge (undirected g) (x, y) label
+  pub put_both : (label : ℕ) → undirected_graph (with_edge (with_edge g (x, y) label) (y, x) label) ≡ with_edge (undirected_graph g) (x, y) label
   put_both label =
       same_graph _ _ (λ _. refl)
       (λ a b. edge-up (with_edge (with_edge g (x, y) label) (y, x) label) a b
       ∙ ap (λ o. cond (nat_lt a b) o None) (edge-with_edge (with_edge g (x, y) label) y x label a b ∙ ap (cond (eqb a y && eqb b x) (Some label)) (edge-with_edge g x y label a b))
       ∙ once (nat_lt a b) (eqb a y && eqb b x) (eqb a x && eqb b y) (Some label) (map.get g.edges (a, b)) (this_up a b) (not_down a b)
-      ∙ sym (edge-with_edge (undirected g) x y label a b ∙ ap (cond (eqb a x && eqb b y) (Some label)) (edge-up g a b)))
+      ∙ sym (edge-with_edge (undirected_graph g) x y label a b ∙ ap (cond (eqb a x && eqb b y) (Some label)) (edge-up g a b)))
 
-  pub take_both : undirected (without_edge (without_edge g (x, y)) (y, x)) ≡ without_edge (undirected g) (x, y)
+  pub take_both : undirected_graph (without_edge (without_edge g (x, y)) (y, x)) ≡ without_edge (undirected_graph g) (x, y)
   take_both =
       same_graph _ _ (λ _. refl)
       (λ a b. edge-up (without_edge (without_edge g (x, y)) (y, x)) a b
       ∙ ap (λ o. cond (nat_lt a b) o None) (edge-without_edge (without_edge g (x, y)) y x a b ∙ ap (cond (eqb a y && eqb b x) None) (edge-without_edge g x y a b))
       ∙ once (nat_lt a b) (eqb a y && eqb b x) (eqb a x && eqb b y) None (map.get g.edges (a, b)) (this_up a b) (not_down a b)
-      ∙ sym (edge-without_edge (undirected g) x y a b ∙ ap (cond (eqb a x && eqb b y) None) (edge-up g a b)))
+      ∙ sym (edge-without_edge (undirected_graph g) x y a b ∙ ap (cond (eqb a x && eqb b y) None) (edge-up g a b)))
 
 either : {A : Type 0} (b : Bool) (x : A) → x ≡ cond b x x
 either true x = refl
@@ -114,7 +114,7 @@ IsUndirected-empty_graph = record {
   ends = λ x y has. absurd (false≢true (sym (ap is_some (map.get-empty pair_cmp (x, y))) ∙ has));
 }
 
-pub undirected-empty_graph : undirected empty_graph ≡ empty_graph
+pub undirected-empty_graph : undirected_graph empty_graph ≡ empty_graph
 undirected-empty_graph =
     same_graph _ _ (λ _. refl)
     (λ x y. edge-up empty_graph x y
@@ -221,14 +221,14 @@ module _ (g : Graph) (v : ℕ) (near : map.FinMap nat_cmp ℕ) (two : IsUndirect
       ] refl
       ∙ (λ i. cond (not (flipped a v i || flipped b v i)) (map.get g.edges (a, b)) None)
 
-  pub undirected-without_vertex : undirected (without_edges_to (without_row g v) near v) ≡ without_vertex (undirected g) v
+  pub undirected-without_vertex : undirected_graph (without_edges_to (without_row g v) near v) ≡ without_vertex (undirected_graph g) v
   undirected-without_vertex =
       same_graph _ _ (λ _. refl)
       (λ a b. edge-up (without_edges_to (without_row g v) near v) a b
       ∙ ap (λ o. cond (nat_lt a b) o None) (edge_gone a b)
       ∙ either_order (nat_lt a b) (not (ends_at v (a, b))) (map.get g.edges (a, b))
       ∙ ap (λ o. cond (not (ends_at v (a, b))) o None) (sym (edge-up g a b))
-      ∙ sym (edge-kept (undirected g).edges (λ e. not (ends_at v e)) (a, b)))
+      ∙ sym (edge-kept (undirected_graph g).edges (λ e. not (ends_at v e)) (a, b)))
 
   pub IsUndirected-without_vertex : IsUndirected (without_edges_to (without_row g v) near v)
   IsUndirected-without_vertex = record {
@@ -240,49 +240,49 @@ module _ (g : Graph) (v : ℕ) (near : map.FinMap nat_cmp ℕ) (two : IsUndirect
   }
 
 -- both ends of an edge are there
-pub HasEnds-undirected : (g : Graph) → IsUndirected g → (x y : ℕ) → IsTrue (has_edge g (x, y)) → HasEnds (undirected g) (x, y)
+pub HasEnds-undirected : (g : Graph) → IsUndirected g → (x y : ℕ) → IsTrue (has_edge g (x, y)) → HasEnds (undirected_graph g) (x, y)
 HasEnds-undirected g two x y has = record { low = two.ends x y has; high = two.ends y x (sym (ap is_some (two.symmetric x y)) ∙ has) }
 
 -- the vertices to which the edges from v lead are its neighbours
 module _ (g : Graph) (two : IsUndirected g) (v : ℕ) where
-  joined : (w : ℕ) → has_edge g (v, w) ≡ is_joined (undirected g) v w
+  joined : (w : ℕ) → has_edge g (v, w) ≡ is_joined (undirected_graph g) v w
   joined w =
-      elim (nat_lt v w) as (λ b. nat_lt v w ≡ b → has_edge g (v, w) ≡ is_joined (undirected g) v w) [
+      elim (nat_lt v w) as (λ b. nat_lt v w ≡ b → has_edge g (v, w) ≡ is_joined (undirected_graph g) v w) [
         | true ↦ λ e.
             let below : v < w = ltb-true v w e in
-            ap is_some (sym (edge-below g v w below)) ∙ joined-at (undirected g) v w (v, w) (λ same. omega arith) (ends_in_order v w below)
-        | false ↦ λ e. elim (eqb v w) as (λ b. eqb v w ≡ b → has_edge g (v, w) ≡ is_joined (undirected g) v w) [
+            ap is_some (sym (edge-below g v w below)) ∙ joined-at (undirected_graph g) v w (v, w) (λ same. omega arith) (ends_in_order v w below)
+        | false ↦ λ e. elim (eqb v w) as (λ b. eqb v w ≡ b → has_edge g (v, w) ≡ is_joined (undirected_graph g) v w) [
           | true ↦ λ same.
               ap (λ u. has_edge g (v, u)) (sym (eqb-true v w same))
               ∙ ap is_some (two.no_loop v)
-              ∙ ap (λ b. not b && has_edge (undirected g) (edge_between v w)) (sym same)
+              ∙ ap (λ b. not b && has_edge (undirected_graph g) (edge_between v w)) (sym same)
           | false ↦ λ apart.
               let below : w < v = grind (arith, nat_tests) in
-              ap is_some (two.symmetric v w ∙ sym (edge-below g w v below)) ∙ joined-at (undirected g) v w (w, v) (λ same. omega arith) (ends_turned v w below)
+              ap is_some (two.symmetric v w ∙ sym (edge-below g w v below)) ∙ joined-at (undirected_graph g) v w (w, v) (λ same. omega arith) (ends_turned v w below)
         ] refl
       ] refl
 
-  pub Lists-neighbours : (ws : List ℕ) → Lists nat_cmp (λ w. has_edge g (v, w)) ws → ws ≡ neighbours (undirected g) v
+  pub Lists-neighbours : (ws : List ℕ) → Lists nat_cmp (λ w. has_edge g (v, w)) ws → ws ≡ neighbours (undirected_graph g) v
   Lists-neighbours ws lists =
-      same_list nat_cmp_total map.nat_cmp-IsAntisymmetric (is_joined (undirected g) v) _ _ (Lists-alike _ _ ws joined lists)
-      (Lists-alike _ _ (neighbours (undirected g) v) (λ w. implied _ _ (λ e. two.ends w v (sym (ap is_some (two.symmetric v w)) ∙ joined w ∙ e)))
-      (Lists-filter nat_cmp_total map.nat_cmp-IsAntisymmetric g.labels (is_joined (undirected g) v)))
+      same_list nat_cmp_total map.nat_cmp-IsAntisymmetric (is_joined (undirected_graph g) v) _ _ (Lists-alike _ _ ws joined lists)
+      (Lists-alike _ _ (neighbours (undirected_graph g) v) (λ w. implied _ _ (λ e. two.ends w v (sym (ap is_some (two.symmetric v w)) ∙ joined w ∙ e)))
+      (Lists-filter nat_cmp_total map.nat_cmp-IsAntisymmetric g.labels (is_joined (undirected_graph g) v)))
 
 -- the edges that go up are the edges, in order
-pub keys-undirected : (g : Graph) → filter goes_up (map.keys g.edges) ≡ map.keys (undirected g).edges
+pub keys-undirected : (g : Graph) → filter goes_up (map.keys g.edges) ≡ map.keys (undirected_graph g).edges
 keys-undirected g =
-    same_list pair_cmp_total pair_cmp-IsAntisymmetric (map.contains_key (undirected g).edges) _ _
+    same_list pair_cmp_total pair_cmp-IsAntisymmetric (map.contains_key (undirected_graph g).edges) _ _
     (Lists-alike _ _ (filter goes_up (map.keys g.edges)) (λ e. some_and_kept (goes_up e) (map.get g.edges e) ∙ ap is_some (sym (edge-kept g.edges goes_up e)))
     (Lists-filter pair_cmp_total pair_cmp-IsAntisymmetric g.edges goes_up))
-    (Lists-keys (undirected g).edges)
+    (Lists-keys (undirected_graph g).edges)
 
 -- an end that the undirected graph has is there
-pub end_is_there : (g seen : Graph) (v end : ℕ) → undirected g ≡ seen → v ≡ end → IsTrue (has_vertex seen end) → IsTrue (has_vertex g v)
+pub end_is_there : (g seen : Graph) (v end : ℕ) → undirected_graph g ≡ seen → v ≡ end → IsTrue (has_vertex seen end) → IsTrue (has_vertex g v)
 end_is_there g seen v end is same has = subst (λ w. IsTrue (has_vertex g w)) (sym same) (subst (λ k. IsTrue (has_vertex k end)) (sym is) has)
 
-pub IsSimple-undirected : (g : Graph) → IsUndirected g → IsSimple (undirected g)
+pub IsSimple-undirected : (g : Graph) → IsUndirected g → IsSimple (undirected_graph g)
 IsSimple-undirected g two =
-    let kept = λ (e : ℕ × ℕ) (has : IsTrue (has_edge (undirected g) e)). some_of_kept (nat_lt e.0 e.1) (map.get g.edges e) (ap is_some (sym (edge-up g e.0 e.1)) ∙ has) in
+    let kept = λ (e : ℕ × ℕ) (has : IsTrue (has_edge (undirected_graph g) e)). some_of_kept (nat_lt e.0 e.1) (map.get g.edges e) (ap is_some (sym (edge-up g e.0 e.1)) ∙ has) in
     record {
       ends = λ e has. HasEnds-undirected g two e.0 e.1 (kept e has).1;
       lower_first = λ e has. ltb-true e.0 e.1 (kept e has).0;

@@ -4,7 +4,7 @@ ghost use Rattle.std.specs.Cmp.{eq_by_cmp_equiv, partial_equiv_from_equiv, parti
 ghost use Rattle.std.specs.Ordering.{as_partial_cmp, eq_by_cmp};
 ghost use Rattle.std.proofs.Common.{refl};
 ghost use Rattle.graph_types.specs.meaning.Orders.{piece_cmp_total};
-ghost use Rattle.graph_types.specs.meaning.Piece.{CanJoin, HasLowerFirst, IsPiece, joined, piece_cmp};
+ghost use Rattle.graph_types.specs.meaning.Piece.{CanJoin, HasLowerFirst, IsPiece, with_joined, piece_cmp};
 ghost use Rattle.graph_types.specs.storage.Slots.{member_in, place_from, slot_of};
 
 use crate::{Edge, Member, Mode, VertexId};
@@ -57,7 +57,7 @@ impl Piece {
     /// The piece with one more member, or `None` where that is of the other mode, is there already, or
     /// would be the ninth.
     pub fn with(&self, m: Member) -> Option<Piece>
-        ensures { SomeIff result (CanJoin self.now m) (joined self.now m) }
+        ensures { SomeIff result (CanJoin self.now m) (with_joined self.now m) }
     {
         match (self.mode, m) {
             (Mode::Vertex, Member::Vertex(v)) => self.with_slot((v.0, 0)),
@@ -69,7 +69,7 @@ impl Piece {
     fn with_slot(&self, slot: Slot) -> Option<Piece>
         requires unused { slot_of (member_in self.now.mode slot) ≡ slot }
         requires lower_first { HasLowerFirst (member_in self.now.mode slot) }
-        ensures { let m = member_in self.now.mode slot in SomeIff result (CanJoin self.now m) (joined self.now m) }
+        ensures { let m = member_in self.now.mode slot in SomeIff result (CanJoin self.now m) (with_joined self.now m) }
     {
         let len = self.len();
         if len == MOST_MEMBERS {

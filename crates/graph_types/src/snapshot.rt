@@ -19,14 +19,14 @@ pub struct Snapshot {
 }
 
 impl Model for Snapshot {
-    ghost use Rattle.graph_types.specs.storage.Adjacency.{IsUndirected, undirected};
+    ghost use Rattle.graph_types.specs.storage.Adjacency.{IsUndirected, undirected_graph};
     ghost use Rattle.graph_types.specs.meaning.Graph.{Graph, graph_code};
 
     ghost Value = { Graph };
 
     ghost coded = { graph_code };
 
-    ghost view = { λ s. undirected s.arcs };
+    ghost view = { λ s. undirected_graph s.arcs };
 
     ghost invariant = { λ s. IsUndirected s.arcs };
 }

@@ -6,7 +6,7 @@ use Rattle.std.proofs.lemmas.Bool.{eq-eqb, eqb-true, false≢true, cases_lt, cas
 use Rattle.memchr.specs.Find.{Nowhere, Passes, is_byte, IsFirstByte}
 use Rattle.job_io.specs.calls.Ends.{BothKnown}
 use Rattle.job_io.specs.meaning.Lines.{lf, most_line_bytes, HasNoLf, Reading, lines_of, line_text, GivesLine, GivesEnd, StopsInLine, LongLineFollows}
-use Rattle.job_io.specs.calls.Reading.{Takes, IsShort, HasLineOf}
+use Rattle.job_io.specs.calls.Reading.{MovesBytes, IsShort, HasLineOf}
 use Rattle.job_io.proofs.LinesOf.{lines_of-whole, lines_of-last, lines_of-unfinished, lf_or_none}
 
 -- a search that found no LF in the first n bytes
@@ -64,11 +64,11 @@ BothKnown-weaker (Some was) (Some is) P Q weaker known = weaker was is known
 
 -- ---- each outcome of a call for the next line, from what was taken for it
 module _ (was is : Option (List ℕ)) (old new : Reading) where
-  pub stops_in_line : IsTrue old.line.whole → Takes old.held new.held was is → IsShort new.held → BothKnown was is (StopsInLine old new)
+  pub stops_in_line : IsTrue old.line.whole → MovesBytes old.held new.held was is → IsShort new.held → BothKnown was is (StopsInLine old new)
   stops_in_line whole taken short =
       BothKnown-weaker was is (λ a b. old.held ++ a ≡ new.held ++ b) (StopsInLine old new) (λ a b same. record { after_whole = whole; taken = same; no_line = short.no_lf; short = short.short }) taken
 
-  pub gives_line : (now : List ℕ) (n : ℕ) → Takes old.held now was is → HasLineOf now n → new.line ≡ record { bytes = take n now; whole = true } → new.held ≡ drop (n + 1) now
+  pub gives_line : (now : List ℕ) (n : ℕ) → MovesBytes old.held now was is → HasLineOf now n → new.line ≡ record { bytes = take n now; whole = true } → new.held ≡ drop (n + 1) now
       → BothKnown was is (GivesLine old new)
   gives_line now n taken found line held =
       BothKnown-weaker was is (λ a b. old.held ++ a ≡ now ++ b) (GivesLine old new) (λ a b same.
@@ -86,18 +86,18 @@ module _ (was is : Option (List ℕ)) (old new : Reading) where
             ∙ ap (λ h. line_text new.line ++ (h ++ b)) (sym held);
       }) taken
 
-  pub more_follows : (now : List ℕ) → Takes old.held now was is → now ≢ [] → BothKnown was is (λ a _. old.held ++ a ≢ [])
+  pub more_follows : (now : List ℕ) → MovesBytes old.held now was is → now ≢ [] → BothKnown was is (λ a _. old.held ++ a ≢ [])
   more_follows now taken some =
       BothKnown-weaker was is (λ a b. old.held ++ a ≡ now ++ b) (λ a _. old.held ++ a ≢ []) (λ a b same none. some (nil_from_append now b (sym same ∙ none))) taken
 
-  pub long_line_follows : (now : List ℕ) → Takes old.held now was is → HasNoLf (take (most_line_bytes + 1) now) → most_line_bytes < length now → BothKnown was is (λ a _. LongLineFollows (old.held ++ a))
+  pub long_line_follows : (now : List ℕ) → MovesBytes old.held now was is → HasNoLf (take (most_line_bytes + 1) now) → most_line_bytes < length now → BothKnown was is (λ a _. LongLineFollows (old.held ++ a))
   long_line_follows now taken no_lf long =
       BothKnown-weaker was is (λ a b. old.held ++ a ≡ now ++ b) (λ a _. LongLineFollows (old.held ++ a)) (λ a b same.
       let front : take (most_line_bytes + 1) now ≡ take (most_line_bytes + 1) (now ++ b) = sym (take-append-le (most_line_bytes + 1) now b (omega arith)) in
       subst LongLineFollows (sym same) (LongLineFollows-from (now ++ b) (subst HasNoLf front no_lf) (omega (arith, length-append now b)))) taken
 
 -- the last line, without LF, at the end of the source
-pub gives_last : (was is : Option (List ℕ)) (old new : Reading) (now : List ℕ) (n : ℕ) → Takes old.held now was is → IsShort now → n ≡ length now → 0 < n → IsAtEnd is
+pub gives_last : (was is : Option (List ℕ)) (old new : Reading) (now : List ℕ) (n : ℕ) → MovesBytes old.held now was is → IsShort now → n ≡ length now → 0 < n → IsAtEnd is
     → new.line ≡ record { bytes = take n now; whole = false } → new.held ≡ drop (n + 0) now → BothKnown was is (GivesLine old new)
 gives_last None is old new now n taken short all some end line held = tt
 gives_last (Some was) None old new now n taken short all some end line held = taken

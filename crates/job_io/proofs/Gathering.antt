@@ -8,7 +8,7 @@ use Rattle.std.proofs.Math.Seq.{take-append-add}
 use Rattle.std.proofs.lemmas.List.{append-nil, take_min, take-append-drop, take-append-le}
 use Rattle.std.proofs.lemmas.Bool.{false≢true}
 use Rattle.std.specs.Io.KnownBytes.{Appends, Keeps, ReadConsumes, WriteAppends}
-use Rattle.job_io.specs.calls.Ends.{AppendsFront, Puts, PassesOn, Gathers}
+use Rattle.job_io.specs.calls.Ends.{AppendsPrefix, Puts, PassesOn, Gathers}
 
 -- two appends are one
 pub Appends-then : (old mid new : Option (List ℕ)) (xs ys : List ℕ) → Appends old mid xs → Appends mid new ys → Appends old new (xs ++ ys)
@@ -63,11 +63,11 @@ PassesOn-then {old} {mid} {new} {held} {holds} {keeps} {first} {second} p q = re
 }
 
 -- known bytes that stay grow by a front, which is empty
-pub AppendsFront-kept : (old new : Option (List ℕ)) (text : List ℕ) → Keeps old new → AppendsFront old new text
+pub AppendsFront-kept : (old new : Option (List ℕ)) (text : List ℕ) → Keeps old new → AppendsPrefix old new text
 AppendsFront-kept old new text k = record { len = 0; written = Appends-kept old new k }
 
 -- a front of a text is a front of a longer one
-pub AppendsFront-more : {old new : Option (List ℕ)} {text : List ℕ} (more : List ℕ) → AppendsFront old new text → AppendsFront old new (text ++ more)
+pub AppendsFront-more : {old new : Option (List ℕ)} {text : List ℕ} (more : List ℕ) → AppendsPrefix old new text → AppendsPrefix old new (text ++ more)
 AppendsFront-more {old} {new} {text} more front =
     let short : min front.len (length text) ≤ length text = omega arith in
     let same : take front.len text ≡ take (min front.len (length text)) (text ++ more) =
@@ -75,7 +75,7 @@ AppendsFront-more {old} {new} {text} more front =
     record { len = min front.len (length text); written = subst (Appends old new) same front.written }
 
 -- a text, and then a front of another one
-pub AppendsFront-after : (old : Option (List ℕ)) {mid new : Option (List ℕ)} (first : List ℕ) {second : List ℕ} → Appends old mid first → AppendsFront mid new second → AppendsFront old new (first ++ second)
+pub AppendsFront-after : (old : Option (List ℕ)) {mid new : Option (List ℕ)} (first : List ℕ) {second : List ℕ} → Appends old mid first → AppendsPrefix mid new second → AppendsPrefix old new (first ++ second)
 AppendsFront-after old {mid} {new} first {second} a front = record {
   len = length first + front.len;
   written = subst (Appends old new) (sym (take-append-add first second front.len))
@@ -83,16 +83,16 @@ AppendsFront-after old {mid} {new} first {second} a front = record {
 }
 
 -- a text was passed on, and then a front of what is held and of another text was written
-pub AppendsFront-then : {old mid new : Option (List ℕ)} {held holds first : List ℕ} (second : List ℕ) → PassesOn old held mid holds first → AppendsFront mid new (holds ++ second) → AppendsFront old new (held ++ (first ++ second))
+pub AppendsFront-then : {old mid new : Option (List ℕ)} {held holds first : List ℕ} (second : List ℕ) → PassesOn old held mid holds first → AppendsPrefix mid new (holds ++ second) → AppendsPrefix old new (held ++ (first ++ second))
 AppendsFront-then {old} {mid} {new} {held} {holds} {first} second p front =
     let whole : p.sent ++ (holds ++ second) ≡ held ++ (first ++ second) =
     sym (append_assoc p.sent holds second) ∙ ap (λ zs. zs ++ second) p.rest ∙ append_assoc held first second in
-    subst (AppendsFront old new) whole (AppendsFront-after old p.sent p.written front)
+    subst (AppendsPrefix old new) whole (AppendsFront-after old p.sent p.written front)
 
 -- a part of what was held is out, and no more follows than a front of the rest
-pub PassesOn-stops : {old mid new : Option (List ℕ)} {held holds : List ℕ} → PassesOn old held mid holds [] → AppendsFront mid new holds → AppendsFront old new held
+pub PassesOn-stops : {old mid new : Option (List ℕ)} {held holds : List ℕ} → PassesOn old held mid holds [] → AppendsPrefix mid new holds → AppendsPrefix old new held
 PassesOn-stops {old} {mid} {new} {held} {holds} p front =
-    subst (AppendsFront old new) (append-nil held) (AppendsFront-then [] p (AppendsFront-more [] front))
+    subst (AppendsPrefix old new) (append-nil held) (AppendsFront-then [] p (AppendsFront-more [] front))
 
 -- a text, and then another one that is put
 pub Puts-after : {T E : Type 0} (old : Option (List ℕ)) {mid new : Option (List ℕ)} (first : List ℕ) {second : List ℕ} {result : Result T E} → Appends old mid first → Puts mid new second result → Puts old new (first ++ second) result
@@ -100,7 +100,7 @@ Puts-after old {mid = mid} {new = new} first {second = second} {result = Ok v} a
 Puts-after old first {result = Err e} a p = record { all = tt; front = AppendsFront-after old first a p.front }
 
 -- an error after a front of a text
-pub Puts-front : {T E : Type 0} {old new : Option (List ℕ)} {text : List ℕ} (result : Result T E) → IsErr result → AppendsFront old new text → Puts old new text result
+pub Puts-front : {T E : Type 0} {old new : Option (List ℕ)} {text : List ℕ} (result : Result T E) → IsErr result → AppendsPrefix old new text → Puts old new text result
 Puts-front (Ok v) is front = absurd (false≢true is)
 Puts-front (Err e) is front = record { all = tt; front = front }
 
@@ -138,7 +138,7 @@ Gathers-err (Err d) is p = record { passed = tt; front = p.front }
 pub Gathers-more : {T E : Type 0} {old new : Option (List ℕ)} {held holds text : List ℕ} {e : E} (more : List ℕ) → Gathers {T = T} old held new holds text (Err e) → Gathers {T = T} old held new holds (text ++ more) (Err e)
 Gathers-more {old = old} {new = new} {held = held} {text = text} more p = record {
   passed = tt;
-  front = subst (AppendsFront old new) (append_assoc held text more) (AppendsFront-more more p.front);
+  front = subst (AppendsPrefix old new) (append_assoc held text more) (AppendsFront-more more p.front);
 }
 
 -- a failed call wrote a front of all that it had

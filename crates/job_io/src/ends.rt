@@ -1,7 +1,7 @@
 ghost use Rattle.std.specs.Prelude.{◌≡◌, ◌<◌, ℕ, List, length, Option, Ok};
 ghost use Rattle.std.specs.Io.{ReadsAtMost, WritesAtMost};
 ghost use Rattle.std.specs.Io.KnownBytes.{ReadConsumes, WriteAppends};
-ghost use Rattle.job_io.specs.calls.Ends.{HasCause, Rose, Puts};
+ghost use Rattle.job_io.specs.calls.Ends.{HasCause, HasRisen, Puts};
 
 /// The system refused a read or a write. Nothing was read or written by the call.
 #[derive(Clone, Copy, Debug, PartialEq, Eq)]
@@ -46,7 +46,7 @@ pub trait Sink {
         ensures bound { WritesAtMost result bytes.now }
         ensures bytes { WriteAppends (written self.old) (written self.new) result bytes.now }
         ensures cause { HasCause (faults self.old) (faults self.new) result }
-        ensures none { result ≡ Ok 0 → 0 < length bytes.now → Rose (faults self.old) (faults self.new) };
+        ensures none { result ≡ Ok 0 → 0 < length bytes.now → HasRisen (faults self.old) (faults self.new) };
 }
 
 /// Writes all the bytes, in as many writes as the sink asks for.

@@ -24,9 +24,9 @@ pub struct LineBuffer {
 
 impl Model for LineBuffer {
     ghost use Rattle.std.specs.Prelude.{slice_range};
-    ghost use Rattle.job_io.specs.storage.LineBuffer.{Buffered, FillsBlock};
+    ghost use Rattle.job_io.specs.storage.LineBuffer.{BufferValue, FillsBlock};
 
-    ghost Value = { Buffered };
+    ghost Value = { BufferValue };
 
     ghost view = { λ b. record {
       line = slice_range b.bytes.items b.line_start b.line_end;

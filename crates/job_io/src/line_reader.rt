@@ -1,9 +1,9 @@
 ghost use Rattle.std.specs.Prelude.{◌≡◌, ◌≢◌, ◌↔◌, Contains, ◌≤◌, ◌<◌, ◌+◌, ◌^◌, ℕ, Bool, true, false, List, [], IsTrue, IfOk, OnErr, OnOk, MatchOption, length, if◌then◌else◌};
 ghost use Rattle.std.specs.Bool.{OnTrue};
 ghost use Rattle.std.specs.Result.{result_unwrap_or};
-ghost use Rattle.job_io.specs.calls.Ends.{HasCause, Rose};
+ghost use Rattle.job_io.specs.calls.Ends.{HasCause, HasRisen};
 ghost use Rattle.job_io.specs.meaning.Lines.{lf, FitsLine, after_line};
-ghost use Rattle.job_io.specs.calls.Reading.{Takes, IsShort, IsAhead, ShowsAhead, TellsAny, Nexts};
+ghost use Rattle.job_io.specs.calls.Reading.{MovesBytes, IsShort, IsAhead, ShowsAhead, TellsAny, ReadsNext};
 
 use crate::ends::{Failed, Source};
 use crate::line_buffer::LineBuffer;
@@ -92,7 +92,7 @@ impl LineReader {
     /// After the last line allowed, any further byte is `TooMany`, however the text goes on.
     pub fn next<S: Source>(&mut self, src: &mut S) -> Result<bool, LineFault>
         requires { IsTrue self.old.live }
-        ensures bytes { Nexts self.old self.new (S.left src.old) (S.left src.new) result }
+        ensures bytes { ReadsNext self.old self.new (S.left src.old) (S.left src.new) result }
         ensures line { IfOk result (λ given. OnTrue given (FitsLine self.new.line)) }
 
         ensures number { self.new.number
@@ -104,7 +104,7 @@ impl LineReader {
         // A line that is held to its LF is given without asking the source.
         ensures unasked { Contains self.old.held lf → src.new ≡ src.old }
         ensures kept { S.faults src.old ≤ S.faults src.new }
-        ensures cause { result ≡ Err LineFault.ReadFault → Rose (S.faults src.old) (S.faults src.new) }
+        ensures cause { result ≡ Err LineFault.ReadFault → HasRisen (S.faults src.old) (S.faults src.new) }
     {
         self.live = false;
         if !self.whole {
@@ -187,7 +187,7 @@ enum Ahead {
 
 // Takes from the source until it is known what stands ahead.
 fn look_ahead<S: Source>(buffer: &mut LineBuffer, src: &mut S) -> Result<Ahead, Failed>
-    ensures taken { Takes buffer.old.held buffer.new.held (S.left src.old) (S.left src.new) }
+    ensures taken { MovesBytes buffer.old.held buffer.new.held (S.left src.old) (S.left src.new) }
     ensures ok { IfOk result (IsAhead buffer.new.held (S.left src.new)) }
     ensures err { OnErr result (IsShort buffer.new.held) }
     ensures unasked { Contains buffer.old.held lf → src.new ≡ src.old }
@@ -222,7 +222,7 @@ fn first_line(held: &[u8]) -> Option<Ahead>
 
 // Whether any byte is left. The source is asked only where none is held.
 fn any_ahead<S: Source>(buffer: &mut LineBuffer, src: &mut S) -> Result<bool, Failed>
-    ensures taken { Takes buffer.old.held buffer.new.held (S.left src.old) (S.left src.new) }
+    ensures taken { MovesBytes buffer.old.held buffer.new.held (S.left src.old) (S.left src.new) }
     ensures ok { IfOk result (TellsAny buffer.new.held (S.left src.new)) }
     ensures err { OnErr result (buffer.new.held ≡ []) }
     ensures unasked { buffer.old.held ≢ [] → src.new ≡ src.old }

@@ -1,8 +1,8 @@
 ghost use Rattle.std.specs.Prelude.{◌≡◌, ◌<◌, ◌≤◌, [], min, length, take, Some, IfOk, Ok, if◌then◌else◌};
 ghost use Rattle.std.specs.Io.{ReadsAtMost, WritesAtMost};
 ghost use Rattle.std.specs.Io.KnownBytes.{ReadConsumes, WriteAppends};
-ghost use Rattle.job_io.specs.calls.Ends.{HasCause, Rose};
-ghost use Rattle.job_io.specs.calls.Memory.{raised, is_failing, read_answer, after_read, write_answer, after_write};
+ghost use Rattle.job_io.specs.calls.Ends.{HasCause, HasRisen};
+ghost use Rattle.job_io.specs.calls.Memory.{next_count, is_failing, read_answer, after_read, write_answer, after_write};
 
 use crate::{Failed, Sink, Source};
 use graph_types::{List, NoMemory};
@@ -164,7 +164,7 @@ impl Sink for MemorySink {
         ensures bound { WritesAtMost result bytes.now }
         ensures bytes { WriteAppends (Some self.old.written) (Some self.new.written) result bytes.now }
         ensures cause { HasCause self.old.faults self.new.faults result }
-        ensures none { result ≡ Ok 0 → 0 < length bytes.now → Rose self.old.faults self.new.faults }
+        ensures none { result ≡ Ok 0 → 0 < length bytes.now → HasRisen self.old.faults self.new.faults }
         ensures answer { result ≡ write_answer self.old (length bytes.now) }
         ensures after { self.new ≡ after_write self.old bytes.now }
     {
@@ -203,10 +203,10 @@ impl Tally {
 
     /// Counts one more call, and tells whether it fails, which is a fault.
     fn next_fails(&mut self) -> bool
-        ensures answer { result ≡ is_failing self.old.failing (raised self.old.calls) }
+        ensures answer { result ≡ is_failing self.old.failing (next_count self.old.calls) }
         ensures after { self.new ≡ record self.old {
-          calls = raised self.old.calls;
-          faults = if result then raised self.old.faults else self.old.faults;
+          calls = next_count self.old.calls;
+          faults = if result then next_count self.old.faults else self.old.faults;
         } }
         ensures kept { self.old.faults ≤ self.new.faults }
     {
@@ -220,7 +220,7 @@ impl Tally {
 
     /// Counts one more fault.
     fn raise(&mut self)
-        ensures after { self.new ≡ record self.old { faults = raised self.old.faults } }
+        ensures after { self.new ≡ record self.old { faults = next_count self.old.faults } }
         ensures kept { self.old.faults ≤ self.new.faults }
     {
         self.faults = self.faults.saturating_add(1);

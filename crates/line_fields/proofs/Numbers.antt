@@ -10,7 +10,7 @@ use Rattle.std.proofs.lemmas.List.Sums.{prefix_len-le-length}
 use Rattle.std.proofs.lemmas.Option.{slice_get-get_or, slice_get-map}
 use Rattle.std.proofs.lemmas.Slice.Eq.{bytes_eq-Decides}
 use Rattle.line_fields.specs.meaning.Fields.{is_label_word}
-use Rattle.line_fields.specs.meaning.Names.{Names, AreNames, most_names, number_in, with_name, interned}
+use Rattle.line_fields.specs.meaning.Names.{Names, AreNames, most_names, number_in, with_name, interning}
 
 module _ {X Y : Type 0} (f : X → Y) (p : Y → Bool) where
   position_or_len-map : (xs : List X) → position_or_len p (map f xs) ≡ position_or_len (λ x. p (f x)) xs
@@ -117,15 +117,15 @@ AreNames-push names name are new room label = record {
   few = omega (arith, length-append names (name ∷ []));
 }
 
-pub interned-known : (names : Names) (name : List ℕ) (n : ℕ) → number_in names name ≡ Some n → interned names name ≡ Some (n, names)
+pub interned-known : (names : Names) (name : List ℕ) (n : ℕ) → number_in names name ≡ Some n → interning names name ≡ Some (n, names)
 interned-known names name n known = ap (with_name names name) known
 
-interned-new : (names : Names) (name : List ℕ) → number_in names name ≡ None → length names < most_names → interned names name ≡ Some (length names, names ++ name ∷ [])
+interned-new : (names : Names) (name : List ℕ) → number_in names name ≡ None → length names < most_names → interning names name ≡ Some (length names, names ++ name ∷ [])
 interned-new names name new room =
     ap (with_name names name) new
     ∙ ap (λ t. cond t (Some (length names, names ++ name ∷ [])) None) (lt-ltb (length names) most_names room)
 
-interned-full : (names : Names) (name : List ℕ) → number_in names name ≡ None → most_names ≤ length names → interned names name ≡ None
+interned-full : (names : Names) (name : List ℕ) → number_in names name ≡ None → most_names ≤ length names → interning names name ≡ None
 interned-full names name new full =
     ap (with_name names name) new
     ∙ ap (λ t. cond t (Some (length names, names ++ name ∷ [])) None) (le-ltb (length names) most_names full)
@@ -169,7 +169,7 @@ module _ {X : Type 0} (f : X → List ℕ) where
     pub number_in-missed : number_in names name ≡ None
     number_in-missed = number_in-keys keys names name r seen looked_up ∙ missed
 
-    pub interned-missed_full : most_names ≤ place → interned names name ≡ None
+    pub interned-missed_full : most_names ≤ place → interning names name ≡ None
     interned-missed_full full = interned-full names name number_in-missed (omega (arith, length-keys keys names seen))
 
     pub room-missed : place < most_names → length names < most_names
@@ -184,7 +184,7 @@ module _ {X : Type 0} (f : X → List ℕ) where
       AreNames-put are room label =
           subst AreNames (sym put_to_names) (AreNames-push names name (subst AreNames seen are) number_in-missed (room-missed room) label)
 
-      pub interned-put : place < most_names → interned names name ≡ Some (place, map f later)
+      pub interned-put : place < most_names → interning names name ≡ Some (place, map f later)
       interned-put room =
           interned-new names name number_in-missed (room-missed room)
           ∙ ap (λ n. Some (n, names ++ name ∷ [])) (length-keys keys names seen ∙ sym end)

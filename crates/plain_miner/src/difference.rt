@@ -1,8 +1,8 @@
 ghost use Rattle.std.specs.Prelude.{◌≡◌, IfOk};
 ghost use Rattle.std.specs.List.{list_any};
 ghost use Rattle.graph_types.specs.meaning.Piece.{members_of_all};
-ghost use Rattle.mining_model.specs.meaning.Changes.{same_members, without};
-ghost use Rattle.plain_miner.specs.meaning.Pieces.{pieces_without};
+ghost use Rattle.mining_model.specs.meaning.Changes.{same_members, difference};
+ghost use Rattle.plain_miner.specs.meaning.Pieces.{piece_difference};
 
 use graph_types::{NoMemory, Piece, PieceList};
 use std::alloc::Global;
@@ -10,9 +10,9 @@ use std::alloc::Global;
 /// The pieces whose members no other piece has, in their order. Each piece is compared with each other
 /// one.
 pub fn without(alloc: Global, pieces: &[Piece], others: &[Piece]) -> Result<PieceList, NoMemory>
-    ensures pieces { IfOk result (λ left. left ≡ pieces_without pieces.now others.now) }
+    ensures pieces { IfOk result (λ left. left ≡ piece_difference pieces.now others.now) }
     ensures members { IfOk result
-        (λ left. members_of_all left ≡ without (members_of_all pieces.now) (members_of_all others.now)) }
+        (λ left. members_of_all left ≡ difference (members_of_all pieces.now) (members_of_all others.now)) }
 {
     let mut left = PieceList::new(alloc);
     for piece in pieces {

@@ -7,7 +7,7 @@ use Rattle.std.proofs.lemmas.Bool.{and_from, le-leb, lt-ltb}
 use Rattle.std.proofs.lemmas.Fmt.{decimal_by_steps, decimal_nonempty, length-decimal-le}
 use Rattle.std.proofs.lemmas.List.Folds.{list_all-append}
 use Rattle.line_fields.specs.meaning.Fields.{has_bytes, is_digit, is_number, number_of, value_after}
-use Rattle.program_grammar.specs.meaning.Grammar.{found, value_up_to, within}
+use Rattle.program_grammar.specs.meaning.Grammar.{or_bad_line, value_up_to, at_most}
 
 value_after-push : (n : ℕ) (ds : List ℕ) (d : ℕ) → value_after n (ds ++ d ∷ []) ≡ 10 * value_after n ds + (d - 48)
 value_after-push n [] d = refl
@@ -58,4 +58,4 @@ module _ (n : ℕ) (short : n < 10 ^ 10) where
       ap (λ b. if b then Some (value_after 0 (decimal n)) else None) (and_from _ _ number small) ∙ ap Some value
 
   pub value_up_to-decimal : (most : ℕ) → n ≤ most → value_up_to most (decimal n) ≡ Ok n
-  value_up_to-decimal most few = ap (λ o. found (within most o)) number_of-decimal ∙ ap (λ (b : Bool). found (if b then Some n else None)) (le-leb n most few)
+  value_up_to-decimal most few = ap (λ o. or_bad_line (at_most most o)) number_of-decimal ∙ ap (λ (b : Bool). or_bad_line (if b then Some n else None)) (le-leb n most few)

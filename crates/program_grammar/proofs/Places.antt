@@ -6,7 +6,7 @@ use Rattle.std.proofs.lemmas.Bool.{lt-ltb, le-ltb, cases_lt}
 use Rattle.std.proofs.lemmas.List.{length-map, map-append}
 use Rattle.line_fields.specs.meaning.Fields.{is_label_word}
 use Rattle.line_fields.specs.meaning.Names.{Names, number_in}
-use Rattle.program_grammar.specs.meaning.Grammar.{numbered, numbered_by}
+use Rattle.program_grammar.specs.meaning.Grammar.{label_number, label_number_by}
 use Rattle.program_grammar.specs.calls.Reading.{AreNew}
 
 -- a place one further on
@@ -72,11 +72,11 @@ pub number_in-append : (names labels : Names) (label : List ℕ) → number_in (
 number_in-append names labels label = position-append (bytes_eq label) names labels
 
 module _ (names : Names) (label : List ℕ) where
-  pub numbered-known : (n : ℕ) → number_in names label ≡ Some n → (n, names) ≡ numbered names label
-  numbered-known n known = sym (ap (numbered_by names label) known)
+  pub numbered-known : (n : ℕ) → number_in names label ≡ Some n → (n, names) ≡ label_number names label
+  numbered-known n known = sym (ap (label_number_by names label) known)
 
-  pub numbered-new : number_in names label ≡ None → (length names, names ++ label ∷ []) ≡ numbered names label
-  numbered-new new = sym (ap (numbered_by names label) new)
+  pub numbered-new : number_in names label ≡ None → (length names, names ++ label ∷ []) ≡ label_number names label
+  numbered-new new = sym (ap (label_number_by names label) new)
 
 pub AreNew-push : (names labels : Names) (label : List ℕ) → AreNew names labels → IsTrue (is_label_word label) → number_in (names ++ labels) label ≡ None → AreNew names (labels ++ label ∷ [])
 AreNew-push names [] label are form new = (form, subst (λ ns. number_in ns label ≡ None) (append-nil names) new, tt)
@@ -85,7 +85,7 @@ AreNew-push names (l ∷ labels) label are form new =
 
 -- the number of a label behind names and the labels that they lack, as it is looked up
 module _ (names labels : Names) (label : List ℕ) where
-  pub numbered-named : (n : ℕ) → Some n ≡ number_in names label → (n, names ++ labels) ≡ numbered (names ++ labels) label
+  pub numbered-named : (n : ℕ) → Some n ≡ number_in names label → (n, names ++ labels) ≡ label_number (names ++ labels) label
   numbered-named n known =
       numbered-known (names ++ labels) label n
       (number_in-append names labels label ∙ ap (λ o. or_behind (length names) o (number_in labels label)) (sym known))
@@ -98,11 +98,11 @@ module _ (names labels : Names) (label : List ℕ) where
         ∙ ap (option_map (λ i. length names + i)) (sym at)
         ∙ ap (λ n. option_map (λ i. n + i) o) (sym held_is)
 
-    pub numbered-put : (i : ℕ) → Some i ≡ number_in labels label → (held + i, names ++ labels) ≡ numbered (names ++ labels) label
+    pub numbered-put : (i : ℕ) → Some i ≡ number_in labels label → (held + i, names ++ labels) ≡ label_number (names ++ labels) label
     numbered-put i at = numbered-known (names ++ labels) label (held + i) (behind_names (Some i) at)
 
     module _ (absent : None ≡ number_in labels label) (later : Names) (later_is : later ≡ labels ++ label ∷ []) where
-      pub numbered-pushed : (count : ℕ) → count ≡ length labels → (held + count, names ++ later) ≡ numbered (names ++ labels) label
+      pub numbered-pushed : (count : ℕ) → count ≡ length labels → (held + count, names ++ later) ≡ label_number (names ++ labels) label
       numbered-pushed count count_is =
           ap (λ ls. (held + count, names ++ ls)) later_is
           ∙ ap (λ ns. (held + count, ns)) (sym (append_assoc names labels (label ∷ [])))

@@ -13,14 +13,14 @@ use Rattle.conditions.specs.declared.condition.Factor.{Factor}
 use Rattle.conditions.specs.declared.condition.Op.{Op}
 use Rattle.conditions.specs.declared.condition.Term.{Term}
 use Rattle.conditions.specs.declared.condition.Term.TheVariants.{Vertices, Edges, Joins, Kinds, Degree, Missing, Least}
-use Rattle.conditions.specs.meaning.Written.{Written, written, written_of, tokens_at, depth_at, term_tokens, factor_tokens, sum_tokens, is_sum_within, are_numbers_within, IsWithinLimits, most_times, most_bound, most_factors, most_depth, most_tokens}
+use Rattle.conditions.specs.meaning.Written.{WrittenSize, written_size, written_size_by, tokens_at, depth_at, term_tokens, factor_tokens, sum_tokens, is_sum_within, are_numbers_within, IsWithinLimits, most_times, most_bound, most_factors, most_depth, most_tokens}
 use Rattle.conditions.proofs.Forms.{of_form, by_form, fold-form}
 use Rattle.program_grammar.specs.declared.fault.Refusal.{Refusal}
 use Rattle.program_grammar.specs.declared.fault.Refusal.TheVariants.{BadLine, TooLong}
 use Rattle.program_grammar.specs.meaning.Token.{Token, digits_in, word, number, opening, closing, comma, plus, times, op}
 use Rattle.program_grammar.specs.meaning.Lexing.{tokens_of}
-use Rattle.program_grammar.specs.meaning.Grammar.{Inside, ◌>>=◌, behind, either, passed, first_of, label, numbered, numbered_by, bound, operator, named_term, label_behind, optional_label, two_labels, term_behind, term_of, factor, factor_by, use_of, more_uses, sum_of, comparison, grouped, atom, neg, and_chain, conj, or_chain, cond_within, inside, alone, condition, condition_of_tokens, condition_of}
-use Rattle.program_grammar.specs.meaning.Text.{cond_text, label_text, knows, knows_term}
+use Rattle.program_grammar.specs.meaning.Grammar.{Nested, ◌>>=◌, tokens_after, if_present, tokens_past, first_of, label, label_number, label_number_by, bound, operator, named_term, label_in_parentheses, optional_label, two_labels, term_after_name, term_of, factor, factor_by, use_of, more_uses, sum_of, comparison, cond_in_parentheses, atom, neg, and_chain, conj, or_chain, cond_within, nested_within, nothing_after, condition, condition_of_tokens, condition_of}
+use Rattle.program_grammar.specs.meaning.Text.{cond_text, label_text, knows_labels, knows_term}
 use Rattle.program_grammar.proofs.Chaining.{negated, closed, chain-stop, chain-more, conj-first, cond-first, more_uses-stop, more_uses-more}
 use Rattle.program_grammar.proofs.Digits.{value_up_to-decimal}
 use Rattle.program_grammar.proofs.WrittenTokens.{Front, all_known, all_small, knows-form, numbers-form, front_term, front_times, front_factor, front_more, front_sum, front_round, front_at, front_by, front_cond, known_label, tokens_of-written}
@@ -42,29 +42,29 @@ module _ (names : Names) (are : AreNames names) where
   unfolding label
   label-reads l ts known =
       let w = label_text names l in
-      ap (λ t. cond t (Ok ((numbered names w).0, ts, (numbered names w).1)) (Err BadLine)) (known_label names l are.labels known)
-      ∙ ap (λ o. Ok ((numbered_by names w o).0, ts, (numbered_by names w o).1)) (known_number names l are.distinct known)
+      ap (λ t. cond t (Ok ((label_number names w).0, ts, (label_number names w).1)) (Err BadLine)) (known_label names l are.labels known)
+      ∙ ap (λ o. Ok ((label_number_by names w o).0, ts, (label_number_by names w o).1)) (known_number names l are.distinct known)
 
-  optional-none : (ts : List Token) → behind opening ts ≡ None → optional_label ts names ≡ Ok (None, ts, names)
+  optional-none : (ts : List Token) → tokens_after opening ts ≡ None → optional_label ts names ≡ Ok (None, ts, names)
   unfolding optional_label
-  optional-none ts lost = ap (label_behind ts names) lost
+  optional-none ts lost = ap (label_in_parentheses ts names) lost
 
   optional-some : (l : ℕ) (ts : List Token) → nat_lt l (length names) ≡ true → optional_label (opening ∷ word (label_text names l) ∷ closing ∷ ts) names ≡ Ok (Some l, ts, names)
   unfolding optional_label
-  optional-some l ts known = ap (λ r. r >>= λ l. passed closing l.1 >>= λ end. Ok (Some l.0, end, l.2)) (label-reads l (closing ∷ ts) known)
+  optional-some l ts known = ap (λ r. r >>= λ l. tokens_past closing l.1 >>= λ end. Ok (Some l.0, end, l.2)) (label-reads l (closing ∷ ts) known)
 
   two-reads : (l m : ℕ) (ts : List Token) → nat_lt l (length names) ≡ true → nat_lt m (length names) ≡ true
       → two_labels (opening ∷ word (label_text names l) ∷ comma ∷ word (label_text names m) ∷ closing ∷ ts) names ≡ Ok ((l, m), ts, names)
   unfolding two_labels
   two-reads l m ts known known_too =
       let second = word (label_text names m) ∷ closing ∷ ts in
-      ap (λ r. r >>= λ l. passed comma l.1 >>= λ middle. label middle l.2 >>= λ m. passed closing m.1 >>= λ end. Ok ((l.0, m.0), end, m.2)) (label-reads l (comma ∷ second) known)
-      ∙ ap (λ r. r >>= λ m. passed closing m.1 >>= λ end. Ok ((l, m.0), end, m.2)) (label-reads m (closing ∷ ts) known_too)
+      ap (λ r. r >>= λ l. tokens_past comma l.1 >>= λ middle. label middle l.2 >>= λ m. tokens_past closing m.1 >>= λ end. Ok ((l.0, m.0), end, m.2)) (label-reads l (comma ∷ second) known)
+      ∙ ap (λ r. r >>= λ m. tokens_past closing m.1 >>= λ end. Ok ((l, m.0), end, m.2)) (label-reads m (closing ∷ ts) known_too)
 
   -- ---- terms and uses
 
-  term-reads : (t : Term) (ts : List Token) → knows_term names t ≡ true → behind opening ts ≡ None → term_of (front_term names t ts) names ≡ Ok (t, ts, names)
-  unfolding term_of named_term term_behind
+  term-reads : (t : Term) (ts : List Token) → knows_term names t ≡ true → tokens_after opening ts ≡ None → term_of (front_term names t ts) names ≡ Ok (t, ts, names)
+  unfolding term_of named_term term_after_name
   term-reads (Vertices None) ts known lost = ap (λ r. r >>= λ l. Ok (Vertices l.0, l.1, l.2)) (optional-none ts lost)
   term-reads (Vertices (Some l)) ts known lost = ap (λ r. r >>= λ l. Ok (Vertices l.0, l.1, l.2)) (optional-some l ts known)
   term-reads (Edges None) ts known lost = ap (λ r. r >>= λ l. Ok (Edges l.0, l.1, l.2)) (optional-none ts lost)
@@ -97,11 +97,11 @@ module _ (names : Names) (are : AreNames names) where
       let by_times : (one : Bool) → eqb f.times 1 ≡ one → factor_by (front_times one f.times term) (first_of digits_in (front_times one f.times term)) ≡ Ok (f.times, term) =
       elim [
         | true ↦ λ e. ap (factor_by term) (no_digits f.term ts) ∙ ap (λ n. Ok (n, term)) (sym (eqb-true f.times 1 e))
-        | false ↦ λ e. ap (λ r. r >>= λ n. passed times (times ∷ term) >>= λ rest. Ok (n, rest)) (value_up_to-decimal f.times (omega (arith, le)) most_times le)
+        | false ↦ λ e. ap (λ r. r >>= λ n. tokens_past times (times ∷ term) >>= λ rest. Ok (n, rest)) (value_up_to-decimal f.times (omega (arith, le)) most_times le)
       ] in
       by_times (eqb f.times 1) refl
 
-  use-reads : (f : Factor) (ts : List Token) → nat_le f.times most_times ≡ true → knows_term names f.term ≡ true → behind opening ts ≡ None → use_of (front_factor names f ts) names ≡ Ok (f, ts, names)
+  use-reads : (f : Factor) (ts : List Token) → nat_le f.times most_times ≡ true → knows_term names f.term ≡ true → tokens_after opening ts ≡ None → use_of (front_factor names f ts) names ≡ Ok (f, ts, names)
   unfolding use_of
   use-reads f ts few known lost =
       ap (λ r. r >>= λ n. term_of n.1 names >>= λ t. Ok (record { times = n.0; term = t.0 }, t.1, t.2)) (factor-reads f ts few)
@@ -111,11 +111,11 @@ module _ (names : Names) (are : AreNames names) where
 
   -- neither a `(` nor a `+` comes first
   record Ends (ts : List Token) : Type 0 where
-    no_open : behind opening ts ≡ None
-    no_plus : behind plus ts ≡ None
+    no_open : tokens_after opening ts ≡ None
+    no_plus : tokens_after plus ts ≡ None
 
   -- no `(` stands behind a factor
-  more-no_open : (sum : List Factor) (ts : List Token) → behind opening ts ≡ None → behind opening (front_more names sum ts) ≡ None
+  more-no_open : (sum : List Factor) (ts : List Token) → tokens_after opening ts ≡ None → tokens_after opening (front_more names sum ts) ≡ None
   more-no_open [] ts lost = lost
   more-no_open (f ∷ sum) ts lost = refl
 
@@ -184,10 +184,10 @@ module _ (names : Names) (are : AreNames names) where
 
   -- a comparison begins with no word of a condition and no `(`
   record Plain (ts : List Token) : Type 0 where
-    no_not : behind (word (codes "not")) ts ≡ None
-    no_true : behind (word (codes "true")) ts ≡ None
-    no_false : behind (word (codes "false")) ts ≡ None
-    no_open : behind opening ts ≡ None
+    no_not : tokens_after (word (codes "not")) ts ≡ None
+    no_true : tokens_after (word (codes "true")) ts ≡ None
+    no_false : tokens_after (word (codes "false")) ts ≡ None
+    no_open : tokens_after opening ts ≡ None
 
   term-plain : (t : Term) (ts : List Token) → Plain (front_term names t ts)
   term-plain (Vertices None) ts = record { no_not = refl; no_true = refl; no_false = refl; no_open = refl }
@@ -210,7 +210,7 @@ module _ (names : Names) (are : AreNames names) where
   sum-plain [] ts some = absurd (omega arith)
   sum-plain (f ∷ sum) ts some = factor-plain f (front_more names sum ts)
 
-  module _ (within : Inside) (ts : List Token) where
+  module _ (within : Nested) (ts : List Token) where
     neg-true : neg within (word (codes "true") ∷ ts) names ≡ Ok (of_form form.True, ts, names)
     unfolding neg atom
     neg-true = refl
@@ -222,10 +222,10 @@ module _ (names : Names) (are : AreNames names) where
     neg-plain : Plain ts → neg within ts names ≡ comparison ts names
     unfolding neg atom
     neg-plain plain =
-        ap (λ o. either o (λ rest. within.neg rest names >>= negated) (atom within ts names)) plain.no_not
-        ∙ ap (λ o. either o (λ rest. Ok (of_form form.True, rest, names)) (either (behind (word (codes "false")) ts) (λ rest. Ok (of_form form.False, rest, names)) (either (behind opening ts) (λ rest. grouped within rest names) (comparison ts names)))) plain.no_true
-        ∙ ap (λ o. either o (λ rest. Ok (of_form form.False, rest, names)) (either (behind opening ts) (λ rest. grouped within rest names) (comparison ts names))) plain.no_false
-        ∙ ap (λ o. either o (λ rest. grouped within rest names) (comparison ts names)) plain.no_open
+        ap (λ o. if_present o (λ rest. within.neg rest names >>= negated) (atom within ts names)) plain.no_not
+        ∙ ap (λ o. if_present o (λ rest. Ok (of_form form.True, rest, names)) (if_present (tokens_after (word (codes "false")) ts) (λ rest. Ok (of_form form.False, rest, names)) (if_present (tokens_after opening ts) (λ rest. cond_in_parentheses within rest names) (comparison ts names)))) plain.no_true
+        ∙ ap (λ o. if_present o (λ rest. Ok (of_form form.False, rest, names)) (if_present (tokens_after opening ts) (λ rest. cond_in_parentheses within rest names) (comparison ts names))) plain.no_false
+        ∙ ap (λ o. if_present o (λ rest. cond_in_parentheses within rest names) (comparison ts names)) plain.no_open
 
   -- ---- operands
 
@@ -243,47 +243,47 @@ module _ (names : Names) (are : AreNames names) where
 
   -- where a chain goes on behind what was read as its operands so far
   abbrev AsConj : Cond → ℕ → List Token → List Token → Type 0
-  AsConj c room us ts = (turns : ℕ) × (length ts ≤ turns) × (conj (inside room) us names ≡ and_chain (inside room) turns c ts names)
+  AsConj c room us ts = (turns : ℕ) × (length ts ≤ turns) × (conj (nested_within room) us names ≡ and_chain (nested_within room) turns c ts names)
 
   abbrev AsCond : Cond → ℕ → List Token → List Token → Type 0
-  AsCond c room us ts = (turns : ℕ) × (length ts ≤ turns) × (cond_within (inside room) us names ≡ or_chain (inside room) turns c ts names)
+  AsCond c room us ts = (turns : ℕ) × (length ts ≤ turns) × (cond_within (nested_within room) us names ≡ or_chain (nested_within room) turns c ts names)
 
   module _ (c : Cond) (room : ℕ) (us ts : List Token) where
-    conj_from_neg : neg (inside room) us names ≡ Ok (c, ts, names) → AsConj c room us ts
-    conj_from_neg read = (length ts, omega arith, conj-first (inside room) us ts names names c read)
+    conj_from_neg : neg (nested_within room) us names ≡ Ok (c, ts, names) → AsConj c room us ts
+    conj_from_neg read = (length ts, omega arith, conj-first (nested_within room) us ts names names c read)
 
-    conj_done : AsConj c room us ts → behind and_word ts ≡ None → conj (inside room) us names ≡ Ok (c, ts, names)
-    conj_done begun lost = begun.2 ∙ chain-stop and_word and_join (neg (inside room)) begun.0 c ts names lost
+    conj_done : AsConj c room us ts → tokens_after and_word ts ≡ None → conj (nested_within room) us names ≡ Ok (c, ts, names)
+    conj_done begun lost = begun.2 ∙ chain-stop and_word and_join (neg (nested_within room)) begun.0 c ts names lost
 
-    cond_from_conj : conj (inside room) us names ≡ Ok (c, ts, names) → AsCond c room us ts
-    cond_from_conj read = (length ts, omega arith, cond-first (inside room) us ts names names c read)
+    cond_from_conj : conj (nested_within room) us names ≡ Ok (c, ts, names) → AsCond c room us ts
+    cond_from_conj read = (length ts, omega arith, cond-first (nested_within room) us ts names names c read)
 
-    cond_done : AsCond c room us ts → behind or_word ts ≡ None → cond_within (inside room) us names ≡ Ok (c, ts, names)
-    cond_done begun lost = begun.2 ∙ chain-stop or_word or_join (conj (inside room)) begun.0 c ts names lost
+    cond_done : AsCond c room us ts → tokens_after or_word ts ≡ None → cond_within (nested_within room) us names ≡ Ok (c, ts, names)
+    cond_done begun lost = begun.2 ∙ chain-stop or_word or_join (conj (nested_within room)) begun.0 c ts names lost
 
-  neg_not : (c : Cond) (room left : ℕ) (us ts : List Token) → room ≡ left + 1 → neg (inside left) us names ≡ Ok (c, ts, names) → neg (inside room) (word (codes "not") ∷ us) names ≡ Ok (of_form (form.Not c), ts, names)
-  unfolding neg inside
+  neg_not : (c : Cond) (room left : ℕ) (us ts : List Token) → room ≡ left + 1 → neg (nested_within left) us names ≡ Ok (c, ts, names) → neg (nested_within room) (word (codes "not") ∷ us) names ≡ Ok (of_form (form.Not c), ts, names)
+  unfolding neg nested_within
   neg_not c zero left us ts is read = absurd (omega (arith, is))
-  neg_not c (suc room) left us ts is read = ap (λ n. neg (inside n) us names >>= negated) (let e : room ≡ left = omega (arith, is) in e) ∙ ap (λ r. r >>= negated) read
+  neg_not c (suc room) left us ts is read = ap (λ n. neg (nested_within n) us names >>= negated) (let e : room ≡ left = omega (arith, is) in e) ∙ ap (λ r. r >>= negated) read
 
-  neg_round : (c : Cond) (room left : ℕ) (us ts : List Token) → room ≡ left + 1 → cond_within (inside left) us names ≡ Ok (c, closing ∷ ts, names) → neg (inside room) (opening ∷ us) names ≡ Ok (c, ts, names)
-  unfolding neg atom inside
+  neg_round : (c : Cond) (room left : ℕ) (us ts : List Token) → room ≡ left + 1 → cond_within (nested_within left) us names ≡ Ok (c, closing ∷ ts, names) → neg (nested_within room) (opening ∷ us) names ≡ Ok (c, ts, names)
+  unfolding neg atom nested_within
   neg_round c zero left us ts is read = absurd (omega (arith, is))
-  neg_round c (suc room) left us ts is read = ap (λ n. cond_within (inside n) us names >>= closed) (let e : room ≡ left = omega (arith, is) in e) ∙ ap (λ r. r >>= closed) read
+  neg_round c (suc room) left us ts is read = ap (λ n. cond_within (nested_within n) us names >>= closed) (let e : room ≡ left = omega (arith, is) in e) ∙ ap (λ r. r >>= closed) read
 
   -- ---- conditions
 
   -- The tokens of a condition that is this large are read as it, by the production that its place asks for: where
   -- one asks less of it, an operand more may follow.
-  record ReadsBack (c : Cond) (w : Written) (f : Front) : Type 0 where
+  record ReadsBack (c : Cond) (w : WrittenSize) (f : Front) : Type 0 where
     same : f.binding ≡ w.binding
     some : 1 ≤ w.tokens
     long : (ts : List Token) → length (f.front ts) ≡ w.tokens + length ts
-    as_neg : (room : ℕ) (ts : List Token) → depth_at 2 w ≤ room → neg (inside room) (front_at 2 f ts) names ≡ Ok (c, ts, names)
+    as_neg : (room : ℕ) (ts : List Token) → depth_at 2 w ≤ room → neg (nested_within room) (front_at 2 f ts) names ≡ Ok (c, ts, names)
     as_conj : (room : ℕ) (ts : List Token) → depth_at 1 w ≤ room → AsConj c room (front_at 1 f ts) ts
-    as_cond : (room : ℕ) (ts : List Token) → depth_at 0 w ≤ room → behind and_word ts ≡ None → AsCond c room (front_at 0 f ts) ts
+    as_cond : (room : ℕ) (ts : List Token) → depth_at 0 w ≤ room → tokens_after and_word ts ≡ None → AsCond c room (front_at 0 f ts) ts
 
-  at-long : (asked : ℕ) (c : Cond) (w : Written) (f : Front) (ts : List Token) → ReadsBack c w f → length (front_at asked f ts) ≡ tokens_at asked w + length ts
+  at-long : (asked : ℕ) (c : Cond) (w : WrittenSize) (f : Front) (ts : List Token) → ReadsBack c w f → length (front_at asked f ts) ≡ tokens_at asked w + length ts
   at-long asked c w f ts reads =
       ap (λ n. length (front_round (nat_lt n asked) f ts)) reads.same
       ∙ (elim (nat_lt w.binding asked) as (λ low. length (front_round low f ts) ≡ w.tokens + 2 * (if low then 1 else 0) + length ts) [
@@ -293,7 +293,7 @@ module _ (names : Names) (are : AreNames names) where
 
   -- what binds by 2
   tight-reads : (c : Cond) (tokens depth : ℕ) (front : List Token → List Token) → 1 ≤ tokens → ((ts : List Token) → length (front ts) ≡ tokens + length ts)
-      → ((room : ℕ) (ts : List Token) → depth ≤ room → neg (inside room) (front ts) names ≡ Ok (c, ts, names))
+      → ((room : ℕ) (ts : List Token) → depth ≤ room → neg (nested_within room) (front ts) names ≡ Ok (c, ts, names))
       → ReadsBack c (record { binding = 2; tokens = tokens; depth = depth }) (record { binding = 2; front = front })
   tight-reads c tokens depth front some long reads = record {
     same = refl;
@@ -305,17 +305,17 @@ module _ (names : Names) (are : AreNames names) where
         cond_from_conj c room (front ts) ts (conj_done c room (front ts) ts (conj_from_neg c room (front ts) ts (reads room ts (omega (arith, enough)))) lost);
   }
 
-  module _ (c d : Cond) (wc wd : Written) (fc fd : Front) (left : ReadsBack c wc fc) (right : ReadsBack d wd fd) where
+  module _ (c d : Cond) (wc wd : WrittenSize) (fc fd : Front) (left : ReadsBack c wc fc) (right : ReadsBack d wd fd) where
     and_begun : (room : ℕ) (ts : List Token) → max (depth_at 1 wc) (depth_at 2 wd) ≤ room → AsConj (and_join c d) room (front_at 1 fc (and_word ∷ front_at 2 fd ts)) ts
     and_begun room ts enough =
         let later = front_at 2 fd ts in
         let begun = left.as_conj room (and_word ∷ later) (omega (arith, enough)) in (
           begun.0 - 1,
           omega (arith, begun.1, at-long 2 d wd fd ts right),
-          begun.2 ∙ chain-more and_word and_join (neg (inside room)) begun.0 c d (and_word ∷ later) later ts names names begun.1 refl (right.as_neg room ts (omega (arith, enough))),
+          begun.2 ∙ chain-more and_word and_join (neg (nested_within room)) begun.0 c d (and_word ∷ later) later ts names names begun.1 refl (right.as_neg room ts (omega (arith, enough))),
         )
 
-    and-reads : ReadsBack (and_join c d) (written_of (form.And wc wd)) (front_by names (form.And fc fd))
+    and-reads : ReadsBack (and_join c d) (written_size_by (form.And wc wd)) (front_by names (form.And fc fd))
     and-reads =
         let whole : List Token → List Token = λ ts. front_at 1 fc (and_word ∷ front_at 2 fd ts) in
         record {
@@ -333,24 +333,24 @@ module _ (names : Names) (are : AreNames names) where
               cond_from_conj (and_join c d) room (whole ts) ts (conj_done (and_join c d) room (whole ts) ts (and_begun room ts (omega (arith, enough))) lost);
         }
 
-    or_begun : (room : ℕ) (ts : List Token) → max (depth_at 0 wc) (depth_at 1 wd) ≤ room → behind and_word ts ≡ None → AsCond (or_join c d) room (front_at 0 fc (or_word ∷ front_at 1 fd ts)) ts
+    or_begun : (room : ℕ) (ts : List Token) → max (depth_at 0 wc) (depth_at 1 wd) ≤ room → tokens_after and_word ts ≡ None → AsCond (or_join c d) room (front_at 0 fc (or_word ∷ front_at 1 fd ts)) ts
     or_begun room ts enough lost =
         let later = front_at 1 fd ts in
         let begun = left.as_cond room (or_word ∷ later) (omega (arith, enough)) refl in (
           begun.0 - 1,
           omega (arith, begun.1, at-long 1 d wd fd ts right),
-          begun.2 ∙ chain-more or_word or_join (conj (inside room)) begun.0 c d (or_word ∷ later) later ts names names begun.1 refl
+          begun.2 ∙ chain-more or_word or_join (conj (nested_within room)) begun.0 c d (or_word ∷ later) later ts names names begun.1 refl
               (conj_done d room later ts (right.as_conj room ts (omega (arith, enough))) lost),
         )
 
-    or_round : (room : ℕ) (ts : List Token) → max (depth_at 0 wc) (depth_at 1 wd) + 1 ≤ room → neg (inside room) (opening ∷ front_at 0 fc (or_word ∷ front_at 1 fd (closing ∷ ts))) names ≡ Ok (or_join c d, ts, names)
+    or_round : (room : ℕ) (ts : List Token) → max (depth_at 0 wc) (depth_at 1 wd) + 1 ≤ room → neg (nested_within room) (opening ∷ front_at 0 fc (or_word ∷ front_at 1 fd (closing ∷ ts))) names ≡ Ok (or_join c d, ts, names)
     or_round room ts enough =
         let inner = front_at 0 fc (or_word ∷ front_at 1 fd (closing ∷ ts)) in
         let less = room - 1 in
         neg_round (or_join c d) room less inner ts (omega (arith, enough))
         (cond_done (or_join c d) less inner (closing ∷ ts) (or_begun less (closing ∷ ts) (omega (arith, enough)) refl) refl)
 
-    or-reads : ReadsBack (or_join c d) (written_of (form.Or wc wd)) (front_by names (form.Or fc fd))
+    or-reads : ReadsBack (or_join c d) (written_size_by (form.Or wc wd)) (front_by names (form.Or fc fd))
     or-reads = record {
       same = refl;
       some = omega arith;
@@ -361,14 +361,14 @@ module _ (names : Names) (are : AreNames names) where
       as_cond = λ room ts enough lost. or_begun room ts (omega (arith, enough)) lost;
     }
 
-  not-reads : (c : Cond) (w : Written) (f : Front) → ReadsBack c w f → ReadsBack (of_form (form.Not c)) (written_of (form.Not w)) (front_by names (form.Not f))
+  not-reads : (c : Cond) (w : WrittenSize) (f : Front) → ReadsBack c w f → ReadsBack (of_form (form.Not c)) (written_size_by (form.Not w)) (front_by names (form.Not f))
   not-reads c w f reads =
       tight-reads (of_form (form.Not c)) (1 + tokens_at 2 w) (1 + depth_at 2 w) (λ ts. word (codes "not") ∷ front_at 2 f ts) (omega arith)
       (λ ts. omega (arith, at-long 2 c w f ts reads))
       (λ room ts enough. neg_not c room (room - 1) (front_at 2 f ts) ts (omega (arith, enough)) (reads.as_neg (room - 1) ts (omega (arith, enough))))
 
   compare-reads : (sum : List Factor) (o : Op) (b : ℕ) → is_sum_within sum ≡ true → b ≤ most_bound → all_known names sum ≡ true
-      → ReadsBack (of_form (form.Compare sum o b)) (written_of (form.Compare sum o b)) (front_by names (form.Compare sum o b))
+      → ReadsBack (of_form (form.Compare sum o b)) (written_size_by (form.Compare sum o b)) (front_by names (form.Compare sum o b))
   compare-reads sum o b within few known =
       let parts = and_parts (nat_le 1 (length sum) && nat_le (length sum) most_factors) (all_small sum) within in
       let some = leb-true 1 (length sum) (and_parts (nat_le 1 (length sum)) (nat_le (length sum) most_factors) parts.0).0 in
@@ -376,39 +376,39 @@ module _ (names : Names) (are : AreNames names) where
       (λ ts. omega (arith, sum-long sum (op o ∷ number (decimal b) ∷ ts)))
       (λ room ts enough.
       let whole = front_sum names sum (op o ∷ number (decimal b) ∷ ts) in
-      neg-plain (inside room) whole (sum-plain sum (op o ∷ number (decimal b) ∷ ts) some) ∙ comparison-reads sum o b ts within few known)
+      neg-plain (nested_within room) whole (sum-plain sum (op o ∷ number (decimal b) ∷ ts) some) ∙ comparison-reads sum o b ts within few known)
 
   abbrev Given : Cond → Type 0
-  Given c = IsTrue (are_numbers_within c) → IsTrue (knows names c) → ReadsBack c (written c) (front_cond names c)
+  Given c = IsTrue (are_numbers_within c) → IsTrue (knows_labels names c) → ReadsBack c (written_size c) (front_cond names c)
 
-  form_reads : (x : form.Cond-F Cond) → ReadsBack (of_form x) (written_of (map-Cond Cond Written written x)) (front_by names (map-Cond Cond Front (front_cond names) x)) → ReadsBack (of_form x) (written (of_form x)) (front_cond names (of_form x))
-  form_reads x reads = subst₂ (ReadsBack (of_form x)) (sym (fold-form Written written_of x)) (sym (fold-form Front (front_by names) x)) reads
+  form_reads : (x : form.Cond-F Cond) → ReadsBack (of_form x) (written_size_by (map-Cond Cond WrittenSize written_size x)) (front_by names (map-Cond Cond Front (front_cond names) x)) → ReadsBack (of_form x) (written_size (of_form x)) (front_cond names (of_form x))
+  form_reads x reads = subst₂ (ReadsBack (of_form x)) (sym (fold-form WrittenSize written_size_by x)) (sym (fold-form Front (front_by names) x)) reads
 
   cond-reads : (c : Cond) → Given c
   cond-reads = by_form Given
-      (λ numbers known. form_reads form.True (tight-reads (of_form form.True) 1 0 (λ ts. word (codes "true") ∷ ts) (omega arith) (λ ts. omega arith) (λ room ts enough. neg-true (inside room) ts)))
-      (λ numbers known. form_reads form.False (tight-reads (of_form form.False) 1 0 (λ ts. word (codes "false") ∷ ts) (omega arith) (λ ts. omega arith) (λ room ts enough. neg-false (inside room) ts)))
+      (λ numbers known. form_reads form.True (tight-reads (of_form form.True) 1 0 (λ ts. word (codes "true") ∷ ts) (omega arith) (λ ts. omega arith) (λ room ts enough. neg-true (nested_within room) ts)))
+      (λ numbers known. form_reads form.False (tight-reads (of_form form.False) 1 0 (λ ts. word (codes "false") ∷ ts) (omega arith) (λ ts. omega arith) (λ room ts enough. neg-false (nested_within room) ts)))
       (λ sum o b numbers known.
       let x : form.Cond-F Cond = form.Compare sum o b in
       let parts = and_parts (is_sum_within sum) (nat_le b most_bound) (sym (numbers-form x) ∙ numbers) in
       form_reads x (compare-reads sum o b parts.0 (leb-true b most_bound parts.1) (sym (knows-form x names) ∙ known)))
       (λ c reads numbers known.
       let x : form.Cond-F Cond = form.Not c in
-      form_reads x (not-reads c (written c) (front_cond names c) (reads (sym (numbers-form x) ∙ numbers) (sym (knows-form x names) ∙ known))))
+      form_reads x (not-reads c (written_size c) (front_cond names c) (reads (sym (numbers-form x) ∙ numbers) (sym (knows-form x names) ∙ known))))
       (λ c d reads reads_too numbers known.
       let x : form.Cond-F Cond = form.And c d in
       let within = and_parts (are_numbers_within c) (are_numbers_within d) (sym (numbers-form x) ∙ numbers) in
-      let labels = and_parts (knows names c) (knows names d) (sym (knows-form x names) ∙ known) in
-      form_reads x (and-reads c d (written c) (written d) (front_cond names c) (front_cond names d) (reads within.0 labels.0) (reads_too within.1 labels.1)))
+      let labels = and_parts (knows_labels names c) (knows_labels names d) (sym (knows-form x names) ∙ known) in
+      form_reads x (and-reads c d (written_size c) (written_size d) (front_cond names c) (front_cond names d) (reads within.0 labels.0) (reads_too within.1 labels.1)))
       (λ c d reads reads_too numbers known.
       let x : form.Cond-F Cond = form.Or c d in
       let within = and_parts (are_numbers_within c) (are_numbers_within d) (sym (numbers-form x) ∙ numbers) in
-      let labels = and_parts (knows names c) (knows names d) (sym (knows-form x names) ∙ known) in
-      form_reads x (or-reads c d (written c) (written d) (front_cond names c) (front_cond names d) (reads within.0 labels.0) (reads_too within.1 labels.1)))
+      let labels = and_parts (knows_labels names c) (knows_labels names d) (sym (knows-form x names) ∙ known) in
+      form_reads x (or-reads c d (written_size c) (written_size d) (front_cond names c) (front_cond names d) (reads within.0 labels.0) (reads_too within.1 labels.1)))
 
   -- ---- a whole condition
 
-  module _ (c : Cond) (within : IsWithinLimits c) (known : IsTrue (knows names c)) where
+  module _ (c : Cond) (within : IsWithinLimits c) (known : IsTrue (knows_labels names c)) where
     pub some_tokens : (ts : List Token) × (tokens_of (cond_text names c) ≡ Some ts) × (1 ≤ length ts)
     some_tokens =
         let reads = cond-reads c within.numbers known in
@@ -422,9 +422,9 @@ module _ (names : Names) (are : AreNames names) where
         let f = front_cond names c in
         let ts = f.front [] in
         let here : front_at 0 f [] ≡ ts = ap (λ b. front_round b f []) (le-ltb f.binding 0 (omega arith)) in
-        let no_pair : depth_at 0 (written c) ≡ (written c).depth + 0 = ap (λ b. (written c).depth + (if b then 1 else 0)) (le-ltb (written c).binding 0 (omega arith)) in
+        let no_pair : depth_at 0 (written_size c) ≡ (written_size c).depth + 0 = ap (λ b. (written_size c).depth + (if b then 1 else 0)) (le-ltb (written_size c).binding 0 (omega arith)) in
         let read = cond_done c most_depth (front_at 0 f []) [] (reads.as_cond most_depth [] (omega (arith, no_pair, within.depth)) refl) refl in
         ap (λ o. condition_of_tokens o names) (tokens_of-written names are.labels c within.numbers known)
         ∙ ap (λ b. cond b (Err TooLong) (condition ts names)) (le-ltb most_tokens (length ts) (omega (arith, reads.long [], within.tokens)))
-        ∙ ap (λ us. cond_within (inside most_depth) us names >>= alone) (sym here)
-        ∙ ap (λ r. r >>= alone) read
+        ∙ ap (λ us. cond_within (nested_within most_depth) us names >>= nothing_after) (sym here)
+        ∙ ap (λ r. r >>= nothing_after) read

@@ -20,10 +20,10 @@ use Rattle.program_grammar.specs.declared.header.HeaderStep.TheVariants.{More, R
 use Rattle.program_grammar.specs.meaning.Token.{Token}
 use Rattle.program_grammar.specs.meaning.Lexing.{tokens_of}
 use Rattle.program_grammar.specs.meaning.Grammar.{◌>>=◌, condition_of}
-use Rattle.program_grammar.specs.meaning.Header.{condition_behind, filter_of, header_said, if_falling, in_range, mode_of, said_by, size_in_range, size_of, size_said, value_of}
-use Rattle.program_grammar.specs.meaning.Programs.{LinesFit, fits_next, judged_by, lines_said, program_said}
+use Rattle.program_grammar.specs.meaning.Header.{condition_after_word, filter_of, header_said, if_falling, in_range, mode_said, awaited_line_said, size_in_range, size_of, size_said, value_of}
+use Rattle.program_grammar.specs.meaning.Programs.{LinesFit, fits_next, outcome_after_line, lines_said, program_said}
 use Rattle.program_grammar.specs.calls.Answers.{HasRoom}
-use Rattle.program_grammar.specs.meaning.Text.{cond_text, knows, mode_text, program_text}
+use Rattle.program_grammar.specs.meaning.Text.{cond_text, knows_labels, mode_text, program_text}
 use Rattle.program_grammar.proofs.Splitting.{tokens_of-blanks}
 use Rattle.program_grammar.proofs.Limits.{some_same}
 use Rattle.program_grammar.proofs.Digits.{number_of-decimal}
@@ -46,19 +46,19 @@ module _ (text : List ℕ) (names : Names) (some : 1 ≤ length (words_of text))
   two_words : nat_lt 1 (suc (length (words_of text))) ≡ true
   two_words = lt-ltb 1 (suc (length (words_of text))) (omega (arith, some))
 
-  behind-filter : condition_behind (codes "filter") (codes "filter " ++ text) names ≡ condition_of text names
-  unfolding condition_behind condition_of tokens_of
+  behind-filter : condition_after_word (codes "filter") (codes "filter " ++ text) names ≡ condition_of text names
+  unfolding condition_after_word condition_of tokens_of
   behind-filter = ap (λ b. condition_of (cond b (codes " " ++ text) []) names) two_words
 
-  behind-match : condition_behind (codes "match") (codes "match " ++ text) names ≡ condition_of text names
-  unfolding condition_behind condition_of tokens_of
+  behind-match : condition_after_word (codes "match") (codes "match " ++ text) names ≡ condition_of text names
+  unfolding condition_after_word condition_of tokens_of
   behind-match = ap (λ b. condition_of (cond b (codes " " ++ text) []) names) two_words
 
 -- ---- lines
 
 module _ (names : Names) where
   mode_line : (m : Mode) → header_said header.Mode (codes "mode " ++ mode_text m) names ≡ Ok (More (header.Size m), names)
-  unfolding header_said said_by mode_of
+  unfolding header_said awaited_line_said mode_said
   mode_line Vertex = refl
   mode_line Edge = refl
 
@@ -70,18 +70,18 @@ module _ (names : Names) where
       ap words_of digit ∙ ap (λ b. filter has_bytes (cond b ([] ∷ [] ∷ []) (onto_first (48 + n) ([] ∷ [])))) no_blank ∙ ap (λ w. w ∷ []) (sym digit)
 
   size_line : (m : Mode) (n : ℕ) → 1 ≤ n → n ≤ most_members → header_said (header.Size m) (codes "size " ++ decimal n) names ≡ Ok (More (header.Filter m n), names)
-  unfolding header_said said_by size_of
+  unfolding header_said awaited_line_said size_of
   size_line m n some few =
       ap (λ words. size_said (value_of (codes "size") (codes "size" ∷ words)) >>= λ n. Ok (More (header.Filter m n), names)) (one_word n (omega (arith, few)))
       ∙ ap (λ o. size_in_range o >>= λ n. Ok (More (header.Filter m n), names)) (number_of-decimal n (omega (arith, few)))
       ∙ ap (λ b. in_range (if b then Some n else None) >>= λ n. Ok (More (header.Filter m n), names)) (and_from (nat_le 1 n) (nat_le n most_members) (le-leb 1 n some) (le-leb n most_members few))
 
   begin_line : (n : ℕ) (p : ProgramValue) → n ≡ p.size → header_said (header.Begin n (record { mode = p.mode; cond = p.filter }) p.matching) (codes "begin") names ≡ Ok (Ready p, names)
-  unfolding header_said said_by
+  unfolding header_said awaited_line_said
   begin_line n p is = ap (λ n. Ok (Ready (record { mode = p.mode; size = n; filter = p.filter; matching = p.matching }), names)) is
 
   said-more : (h next : HeaderReader) (n : ℕ) (line : List ℕ) (lines : List (List ℕ)) → header_said h line names ≡ Ok (More next, names) → lines_said h n (line ∷ lines) names ≡ lines_said next (n + 1) lines names
-  said-more h next n line lines read = ap (judged_by (λ next after. lines_said next (n + 1) lines after) n names) read
+  said-more h next n line lines read = ap (outcome_after_line (λ next after. lines_said next (n + 1) lines after) n names) read
 
   -- there is room for the labels of a line that brings none, whatever it leads to
   fits-line : (h : HeaderReader) (step : HeaderStep) (line : List ℕ) (lines : List (List ℕ)) → length names ≤ most_names → header_said h line names ≡ Ok (step, names)
@@ -90,12 +90,12 @@ module _ (names : Names) where
       subst (λ (said : Result (HeaderStep × Names) Refusal). HasRoom names said × fits_next (λ next after. LinesFit next lines after) said) (sym read) (inr few, later)
 
   -- these premises are invariants of names and of programs, and what writing asks
-  module _ (are : AreNames names) (p : ProgramValue) (program : IsProgram p) (filter_known : IsTrue (knows names p.filter)) (matching_known : IsTrue (knows names p.matching)) where
+  module _ (are : AreNames names) (p : ProgramValue) (program : IsProgram p) (filter_known : IsTrue (knows_labels names p.filter)) (matching_known : IsTrue (knows_labels names p.matching)) where
     abbrev of_filter : FallingValue
     of_filter = record { mode = p.mode; cond = p.filter }
 
     filter_line : header_said (header.Filter p.mode p.size) (codes "filter " ++ cond_text names p.filter) names ≡ Ok (More (header.Match p.size of_filter), names)
-    unfolding header_said said_by filter_of
+    unfolding header_said awaited_line_said filter_of
     filter_line =
         let tokens = some_tokens names are p.filter program.filter_within filter_known in
         let some = some_words (cond_text names p.filter) tokens.0 tokens.1 tokens.2 in
@@ -104,7 +104,7 @@ module _ (names : Names) where
         ∙ ap (λ b. (if b then Ok read else Err NotFalling) >>= λ f. Ok (More (header.Match p.size f.0), f.1)) program.falls
 
     match_line : header_said (header.Match p.size of_filter) (codes "match " ++ cond_text names p.matching) names ≡ Ok (More (header.Begin p.size of_filter p.matching), names)
-    unfolding header_said said_by
+    unfolding header_said awaited_line_said
     match_line =
         let tokens = some_tokens names are p.matching program.matching_within matching_known in
         let some = some_words (cond_text names p.matching) tokens.0 tokens.1 tokens.2 in
@@ -126,7 +126,7 @@ module _ (names : Names) where
         ∙ said-more (header.Size p.mode) (header.Filter p.mode p.size) 2 (codes "size " ++ decimal p.size) lines_from_filter (size_line p.mode p.size program.some_member program.few_members)
         ∙ said-more (header.Filter p.mode p.size) (header.Match p.size of_filter) 3 (codes "filter " ++ cond_text names p.filter) lines_from_match filter_line
         ∙ said-more (header.Match p.size of_filter) (header.Begin p.size of_filter p.matching) 4 (codes "match " ++ cond_text names p.matching) (codes "begin" ∷ []) match_line
-        ∙ ap (judged_by (λ next after. lines_said next 6 [] after) 5 names) (begin_line p.size p refl)
+        ∙ ap (outcome_after_line (λ next after. lines_said next 6 [] after) 5 names) (begin_line p.size p refl)
 
     pub LinesFit-written : LinesFit header.Mode (program_text names p) names
     LinesFit-written =

@@ -10,9 +10,9 @@ use Rattle.program_grammar.specs.declared.fault.Refusal.{Refusal}
 use Rattle.program_grammar.specs.declared.fault.Refusal.TheVariants.{BadLine, TooLong}
 use Rattle.program_grammar.specs.meaning.Token.{Token}
 use Rattle.program_grammar.specs.meaning.Lexing.{tokens_of, tokens_in}
-use Rattle.program_grammar.specs.calls.Cursor.{is_empty}
-use Rattle.program_grammar.specs.meaning.Grammar.{◌>>=◌, cond_within, inside, alone, condition, condition_of, condition_of_tokens}
-use Rattle.program_grammar.specs.calls.Reading.{Left, Fails, GoesOn, KeepsNames, AreNew, NewLabels, Reads, Parses}
+use Rattle.program_grammar.specs.calls.Cursor.{has_no_token}
+use Rattle.program_grammar.specs.meaning.Grammar.{◌>>=◌, cond_within, nested_within, nothing_after, condition, condition_of, condition_of_tokens}
+use Rattle.program_grammar.specs.calls.Reading.{ReaderState, RefusesAs, TakesTokens, KeepsNames, AreNew, NewLabels, ReadsProduction, Parses}
 
 module _ (text : List ℕ) (names : Names) where
   pub condition_of-other : None ≡ option_map length (tokens_of text) → condition_of text names ≡ Err BadLine
@@ -35,46 +35,46 @@ module _ (text : List ℕ) (names : Names) where
             let equal : count ≡ length ts = cc in
             ap (λ b. cond b (Err TooLong) (condition ts names)) (lt-ltb most_tokens (length ts) (omega arith))
 
-    pub condition_of-tokens : count ≤ most_tokens → condition_of text names ≡ (cond_within (inside most_depth) (tokens_in text) names >>= alone)
+    pub condition_of-tokens : count ≤ most_tokens → condition_of text names ≡ (cond_within (nested_within most_depth) (tokens_in text) names >>= nothing_after)
     unfolding condition_of condition
     condition_of-tokens few = by_tokens (tokens_of text) counted
       where
-        by_tokens : (o : Option (List Token)) → Some count ≡ option_map length o → condition_of_tokens o names ≡ (cond_within (inside most_depth) (unwrap_or o []) names >>= alone)
+        by_tokens : (o : Option (List Token)) → Some count ≡ option_map length o → condition_of_tokens o names ≡ (cond_within (nested_within most_depth) (unwrap_or o []) names >>= nothing_after)
         by_tokens None e = absurd (let no : Some count ≡ None = e in cc)
         by_tokens (Some ts) e =
             let same : Some count ≡ Some (length ts) = e in
             let equal : count ≡ length ts = cc in
             ap (λ b. cond b (Err TooLong) (condition ts names)) (le-ltb most_tokens (length ts) (omega arith))
 
-alone-done : (c : Cond) (ts : List Token) (ns : Names) → true ≡ is_empty ts → alone (c, ts, ns) ≡ Ok (c, ns)
+alone-done : (c : Cond) (ts : List Token) (ns : Names) → true ≡ has_no_token ts → nothing_after (c, ts, ns) ≡ Ok (c, ns)
 alone-done c [] ns e = refl
 alone-done c (t ∷ ts) ns e = absurd (let no : true ≡ false = e in cc)
 
-alone-more : (c : Cond) (ts : List Token) (ns : Names) → false ≡ is_empty ts → alone (c, ts, ns) ≡ Err BadLine
+alone-more : (c : Cond) (ts : List Token) (ns : Names) → false ≡ has_no_token ts → nothing_after (c, ts, ns) ≡ Err BadLine
 alone-more c [] ns e = absurd (let no : false ≡ true = e in cc)
 alone-more c (t ∷ ts) ns e = refl
 
 module _ (text : List ℕ) (names : Names) (count : ℕ) (counted : Some count ≡ option_map length (tokens_of text)) (few : count ≤ most_tokens)
-    (start : Left) (start_is : start ≡ record { tokens = tokens_in text; names = names; known = names }) where
-  from_start : condition_of text names ≡ (cond_within (inside most_depth) start.tokens start.names >>= alone)
-  from_start = condition_of-tokens text names count counted few ∙ ap (λ (l : Left). cond_within (inside most_depth) l.tokens l.names >>= alone) (sym start_is)
+    (start : ReaderState) (start_is : start ≡ record { tokens = tokens_in text; names = names; known = names }) where
+  from_start : condition_of text names ≡ (cond_within (nested_within most_depth) start.tokens start.names >>= nothing_after)
+  from_start = condition_of-tokens text names count counted few ∙ ap (λ (l : ReaderState). cond_within (nested_within most_depth) l.tokens l.names >>= nothing_after) (sym start_is)
 
-  pub read-refused : (f : Refusal) → cond_within (inside most_depth) start.tokens start.names ≡ Err f → condition_of text names ≡ Err f
-  read-refused f read = from_start ∙ ap (λ r. r >>= alone) read
+  pub read-refused : (f : Refusal) → cond_within (nested_within most_depth) start.tokens start.names ≡ Err f → condition_of text names ≡ Err f
+  read-refused f read = from_start ∙ ap (λ r. r >>= nothing_after) read
 
-  pub read-fails : (e : ReadError) (mid : Left) → Reads {A = Cond} (Err e) mid (cond_within (inside most_depth) start.tokens start.names) → Fails e (condition_of text names)
+  pub read-fails : (e : ReadError) (mid : ReaderState) → ReadsProduction {A = Cond} (Err e) mid (cond_within (nested_within most_depth) start.tokens start.names) → RefusesAs e (condition_of text names)
   read-fails error.NoMemory mid reads = tt
   read-fails (error.Refused f) mid reads = read-refused f reads
 
-  module _ (c : Cond) (mid : Left) (read : cond_within (inside most_depth) start.tokens start.names ≡ Ok (c, mid.tokens, mid.names)) where
-    pub read-more : false ≡ is_empty mid.tokens → condition_of text names ≡ Err BadLine
-    read-more some = from_start ∙ ap (λ r. r >>= alone) read ∙ alone-more c mid.tokens mid.names some
+  module _ (c : Cond) (mid : ReaderState) (read : cond_within (nested_within most_depth) start.tokens start.names ≡ Ok (c, mid.tokens, mid.names)) where
+    pub read-more : false ≡ has_no_token mid.tokens → condition_of text names ≡ Err BadLine
+    read-more some = from_start ∙ ap (λ r. r >>= nothing_after) read ∙ alone-more c mid.tokens mid.names some
 
-    pub read-done : (end : Left) (labels : List (List ℕ)) → true ≡ is_empty mid.tokens → GoesOn start mid → KeepsNames mid end → NewLabels end labels → Parses names (condition_of text names) c labels
+    pub read-done : (end : ReaderState) (labels : List (List ℕ)) → true ≡ has_no_token mid.tokens → TakesTokens start mid → KeepsNames mid end → NewLabels end labels → Parses names (condition_of text names) c labels
     read-done end labels none on keeps new =
-        let known : end.known ≡ names = keeps.known ∙ on.known ∙ ap (λ (l : Left). l.known) start_is in
+        let known : end.known ≡ names = keeps.known ∙ on.known ∙ ap (λ (l : ReaderState). l.known) start_is in
         record {
-          read = from_start ∙ ap (λ r. r >>= alone) read ∙ alone-done c mid.tokens mid.names none
+          read = from_start ∙ ap (λ r. r >>= nothing_after) read ∙ alone-done c mid.tokens mid.names none
               ∙ ap (λ ns. Ok (c, ns)) (sym keeps.names ∙ new.names ∙ ap (λ ns. ns ++ labels) known);
           new = subst (λ ns. AreNew ns labels) known new.new;
           few = new.few;

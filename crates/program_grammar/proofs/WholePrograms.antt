@@ -14,11 +14,11 @@ use Rattle.program_grammar.specs.declared.header.HeaderReader.{HeaderReader}
 use Rattle.program_grammar.specs.declared.header.HeaderReader.TheVariants as header
 use Rattle.program_grammar.specs.declared.header.HeaderStep.{HeaderStep}
 use Rattle.program_grammar.specs.declared.header.HeaderStep.TheVariants.{More, Ready}
-use Rattle.program_grammar.specs.calls.Answers.{AnswersLine, FewNames, HasRoom, Starves}
+use Rattle.program_grammar.specs.calls.Answers.{AnswersLine, FewNames, HasRoom, RunsOut}
 use Rattle.program_grammar.specs.calls.Faults.{fault_at}
-use Rattle.program_grammar.specs.meaning.Header.{mode_of, size_of, filter_of, condition_behind, is_word, header_said, said_by}
-use Rattle.program_grammar.specs.meaning.Programs.{LinesFit, LinesStarve, ReadsProgram, RoomFor, fits_next, judged_by, lines_said, program_said, starves_next}
-use Rattle.program_grammar.specs.calls.Reading.{Grows}
+use Rattle.program_grammar.specs.meaning.Header.{mode_said, size_of, filter_of, condition_after_word, is_word, header_said, awaited_line_said}
+use Rattle.program_grammar.specs.meaning.Programs.{LinesFit, LinesRunOut, ReadsProgram, RoomFor, fits_next, outcome_after_line, lines_said, program_said, runs_out_next}
+use Rattle.program_grammar.specs.calls.Reading.{AddsNames}
 use Rattle.program_grammar.proofs.Limits.{bind_ok, ok_same}
 
 pub at_line : (lines seen : List (List ℕ)) (i : ℕ) (line text : List ℕ) → seen ≡ lines → line ≡ get_or seen i line → i < length seen → text ≡ line → drop i lines ≡ text ∷ drop (i + 1) lines
@@ -33,7 +33,7 @@ begin-few names h p false true few = few
 begin-few names h p false false few = tt
 
 pub has-room : (h : HeaderReader) (line : List ℕ) (names : Names) → RoomFor h names → HasRoom names (header_said h line names)
-unfolding header_said said_by
+unfolding header_said awaited_line_said
 has-room header.Mode line names room = inl (omega (arith, room))
 has-room (header.Size m) line names room = inl (omega (arith, room))
 has-room (header.Filter m n) line names room = inl (omega (arith, room))
@@ -49,10 +49,10 @@ more_same x next ns after h =
 room-moved : (x next : HeaderReader) (ns after : Names) → RoomFor x ns → ◌≡◌ {A = Result (HeaderStep × Names) Refusal} (Ok (More x, ns)) (Ok (More next, after)) → RoomFor next after
 room-moved x next ns after room h = let e = more_same x next ns after h in subst (λ y. RoomFor y after) e.0 (subst (RoomFor x) e.1 room)
 
-next-room : (h next : HeaderReader) (line : List ℕ) (names after : Names) → RoomFor h names → length after ≤ length names + most_tokens → said_by h line names ≡ Ok (More next, after) → RoomFor next after
-unfolding said_by
+next-room : (h next : HeaderReader) (line : List ℕ) (names after : Names) → RoomFor h names → length after ≤ length names + most_tokens → awaited_line_said h line names ≡ Ok (More next, after) → RoomFor next after
+unfolding awaited_line_said
 next-room header.Mode next line names after room grown read =
-    let (m, is, done) = bind_ok (mode_of (words_of line)) (λ m. Ok (More (header.Size m), names)) (More next, after) read in room-moved (header.Size m) next names after room done
+    let (m, is, done) = bind_ok (mode_said (words_of line)) (λ m. Ok (More (header.Size m), names)) (More next, after) read in room-moved (header.Size m) next names after room done
 next-room (header.Size k) next line names after room grown read =
     let (n, is, done) = bind_ok (size_of (words_of line)) (λ n. Ok (More (header.Filter k n), names)) (More next, after) read in room-moved (header.Filter k n) next names after room done
 next-room (header.Filter k n) next line names after room grown read =
@@ -60,7 +60,7 @@ next-room (header.Filter k n) next line names after room grown read =
     let e = more_same (header.Match n f.0) next f.1 after done in
     room-moved (header.Match n f.0) next f.1 after (omega (arith, room, grown, ap length e.1)) done
 next-room (header.Match n f) next line names after room grown read =
-    let (c, is, done) = bind_ok (condition_behind (codes "match") line names) (λ c. Ok (More (header.Begin n f c.0), c.1)) (More next, after) read in
+    let (c, is, done) = bind_ok (condition_after_word (codes "match") line names) (λ c. Ok (More (header.Begin n f c.0), c.1)) (More next, after) read in
     let e = more_same (header.Begin n f c.0) next c.1 after done in
     room-moved (header.Begin n f c.0) next c.1 after (omega (arith, room, grown, ap length e.1)) done
 next-room (header.Begin n f c) next line names after room grown read = absurd (never (is_word (codes "begin") (words_of line)) read)
@@ -73,7 +73,7 @@ pub line-room : (h next : HeaderReader) (line : List ℕ) (names after : Names) 
 unfolding header_said
 line-room h next line names after room grown read = by_test (is_nothing_line line) read
   where
-    by_test : (b : Bool) → (if b then Ok (More h, names) else said_by h line names) ≡ Ok (More next, after) → RoomFor next after
+    by_test : (b : Bool) → (if b then Ok (More h, names) else awaited_line_said h line names) ≡ Ok (More next, after) → RoomFor next after
     by_test true e = room-moved h next names after room e
     by_test false e = next-room h next line names after room grown e
 
@@ -82,31 +82,31 @@ module _ (h : HeaderReader) (n : ℕ) (rest later : List (List ℕ)) (line : Lis
   room-here (inl room) = has-room h line names room
   room-here (inr fit) = (subst (λ r. LinesFit h r names) rest_is fit).0
 
-  said-here : lines_said h n rest names ≡ judged_by (λ next after. lines_said next (n + 1) later after) n names (header_said h line names)
+  said-here : lines_said h n rest names ≡ outcome_after_line (λ next after. lines_said next (n + 1) later after) n names (header_said h line names)
   said-here = ap (λ r. lines_said h n r names) rest_is
 
-  pub starves-here : (new : Names) → Starves names (header_said h line names) new → LinesStarve h rest names new
-  starves-here new starves = subst (λ r. LinesStarve h r names new) (sym rest_is) (inl starves)
+  pub starves-here : (new : Names) → RunsOut names (header_said h line names) new → LinesRunOut h rest names new
+  starves-here new starves = subst (λ r. LinesRunOut h r names new) (sym rest_is) (inl starves)
 
   module _ (next : HeaderReader) (after : Names) (read : header_said h line names ≡ Ok (More next, after)) where
     pub said-next : lines_said h n rest names ≡ lines_said next (n + 1) later after
-    said-next = said-here ∙ ap (judged_by (λ next after. lines_said next (n + 1) later after) n names) read
+    said-next = said-here ∙ ap (outcome_after_line (λ next after. lines_said next (n + 1) later after) n names) read
 
-    pub starves-later : (new : Names) → LinesStarve next later after new → LinesStarve h rest names new
+    pub starves-later : (new : Names) → LinesRunOut next later after new → LinesRunOut h rest names new
     starves-later new starves =
-        subst (λ r. LinesStarve h r names new) (sym rest_is) (inr (subst (starves_next (λ next after. LinesStarve next later after new)) (sym read) starves))
+        subst (λ r. LinesRunOut h r names new) (sym rest_is) (inr (subst (runs_out_next (λ next after. LinesRunOut next later after new)) (sym read) starves))
 
-    pub room-next : Grows most_tokens names after → RoomFor h names ⊎ LinesFit h rest names → RoomFor next after ⊎ LinesFit next later after
+    pub room-next : AddsNames most_tokens names after → RoomFor h names ⊎ LinesFit h rest names → RoomFor next after ⊎ LinesFit next later after
     room-next grows (inl room) = inl (line-room h next line names after room (omega (arith, grows.few, ap length grows.behind, length-append names grows.more)) read)
     room-next grows (inr fit) = inr (subst (fits_next (λ next after. LinesFit next later after)) read (subst (λ r. LinesFit h r names) rest_is fit).1)
 
   pub said-ready : (p : ProgramValue) (after : Names) → header_said h line names ≡ Ok (Ready p, after) → lines_said h n rest names ≡ (Ok p, after)
-  said-ready p after read = said-here ∙ ap (judged_by (λ next after. lines_said next (n + 1) later after) n names) read
+  said-ready p after read = said-here ∙ ap (outcome_after_line (λ next after. lines_said next (n + 1) later after) n names) read
 
   said-refused : (f : Refusal) → header_said h line names ≡ Err f → lines_said h n rest names ≡ (Err (fault_at (Refused f) n), names)
-  said-refused f read = said-here ∙ ap (judged_by (λ next after. lines_said next (n + 1) later after) n names) read
+  said-refused f read = said-here ∙ ap (outcome_after_line (λ next after. lines_said next (n + 1) later after) n names) read
 
-  module _ (all : List (List ℕ)) (old after : Names) (same : program_said all old ≡ lines_said h n rest names) (starved : (new : Names) → LinesStarve h rest names new → LinesStarve header.Mode all old new) where
+  module _ (all : List (List ℕ)) (old after : Names) (same : program_said all old ≡ lines_said h n rest names) (starved : (new : Names) → LinesRunOut h rest names new → LinesRunOut header.Mode all old new) where
     refused : (r : Result ProgramValue ProgramFault) (e : ProgramFault) (f : Refusal) → r ≡ Err e → e ≡ fault_at (Refused f) n → header_said h line names ≡ Err f → after ≡ names → program_said all old ≡ (r, after)
     refused r e f is told read unchanged = same ∙ said-refused f read ∙ ap (λ x. (Err x, names)) (sym told) ∙ ap (λ x. (x, names)) (sym is) ∙ ap (λ ns. (r, ns)) (sym unchanged)
 

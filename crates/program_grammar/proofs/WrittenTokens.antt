@@ -18,7 +18,7 @@ use Rattle.conditions.specs.meaning.Written.{are_numbers_within, are_numbers_wit
 use Rattle.conditions.proofs.Forms.{of_form, by_form, fold-form}
 use Rattle.program_grammar.specs.meaning.Token.{Token, word, number, opening, closing, comma, plus, times, op}
 use Rattle.program_grammar.specs.meaning.Lexing.{sign_at, token_at, tokens_of}
-use Rattle.program_grammar.specs.meaning.Text.{Text, text_at, text_by, written_cond, cond_text, label_text, term_text, factor_text, more_text, sum_text, op_text, knows, knows_by, knows_term}
+use Rattle.program_grammar.specs.meaning.Text.{Text, text_in_place, text_by, bound_text, cond_text, label_text, term_text, factor_text, more_text, sum_text, op_text, knows_labels, knows_labels_by, knows_term}
 use Rattle.program_grammar.proofs.Splitting.{tokens_of-front}
 use Rattle.program_grammar.proofs.Digits.{digits-decimal, has_bytes-decimal}
 
@@ -349,9 +349,9 @@ pub record HasTokens (t : Text) (f : Front) : Type 0 where
   pub same : f.binding ≡ t.binding
   pub lexes : Lexes t.text f.front
 
-at_lexes : (asked : ℕ) (t : Text) (f : Front) → HasTokens t f → Lexes (text_at asked t) (front_at asked f)
+at_lexes : (asked : ℕ) (t : Text) (f : Front) → HasTokens t f → Lexes (text_in_place asked t) (front_at asked f)
 at_lexes asked t f has =
-    subst (λ n. Lexes (text_at asked t) (front_round (nat_lt n asked) f)) (sym has.same)
+    subst (λ n. Lexes (text_in_place asked t) (front_round (nat_lt n asked) f)) (sym has.same)
     (elim (nat_lt t.binding asked) as (λ low. Lexes (if low then codes "(" ++ t.text ++ codes ")" else t.text) (front_round low f)) [
       | true ↦ closed_lexes (codes "(" ++ t.text) (λ ts. opening ∷ f.front ts) (always_then (codes "(") t.text (λ ts. opening ∷ ts) f.front lexes_open has.lexes)
       | false ↦ has.lexes
@@ -381,17 +381,17 @@ lexes_not rest ts e = ap (option_map (λ us. word (codes "not") ∷ us)) e
 
 -- what is asked of a condition, form by form
 module _ (x : Cond-F Cond) where
-  pub knows-form : (names : Names) → knows names (of_form x) ≡ knows_by names (map-Cond Cond Bool (knows names) x)
-  knows-form names = fold-form Bool (knows_by names) x
+  pub knows-form : (names : Names) → knows_labels names (of_form x) ≡ knows_labels_by names (map-Cond Cond Bool (knows_labels names) x)
+  knows-form names = fold-form Bool (knows_labels_by names) x
 
   pub numbers-form : are_numbers_within (of_form x) ≡ are_numbers_within_of (map-Cond Cond Bool are_numbers_within x)
   numbers-form = fold-form Bool are_numbers_within_of x
 
 module _ (names : Names) (labels : list_all is_label_word names ≡ true) where
   abbrev IsLexed : Cond → Type 0
-  IsLexed c = IsTrue (are_numbers_within c) → IsTrue (knows names c) → HasTokens (written_cond names c) (front_cond names c)
+  IsLexed c = IsTrue (are_numbers_within c) → IsTrue (knows_labels names c) → HasTokens (bound_text names c) (front_cond names c)
 
-  form_has : (x : Cond-F Cond) → HasTokens (text_by names (map-Cond Cond Text (written_cond names) x)) (front_by names (map-Cond Cond Front (front_cond names) x)) → HasTokens (written_cond names (of_form x)) (front_cond names (of_form x))
+  form_has : (x : Cond-F Cond) → HasTokens (text_by names (map-Cond Cond Text (bound_text names) x)) (front_by names (map-Cond Cond Front (front_cond names) x)) → HasTokens (bound_text names (of_form x)) (front_cond names (of_form x))
   form_has x has = subst₂ HasTokens (sym (fold-form Text (text_by names) x)) (sym (fold-form Front (front_by names) x)) has
 
   pub tokens-written : (c : Cond) → IsLexed c
@@ -409,32 +409,32 @@ module _ (names : Names) (labels : list_all is_label_word names ≡ true) where
       let one = has (sym (numbers-form x) ∙ numbers) (sym (knows-form x names) ∙ known) in
       form_has x (record {
         same = refl;
-        lexes = always_then (codes "not ") (text_at 2 (written_cond names c)) (λ ts. word (codes "not") ∷ ts) (front_at 2 (front_cond names c)) lexes_not (at_lexes 2 _ _ one);
+        lexes = always_then (codes "not ") (text_in_place 2 (bound_text names c)) (λ ts. word (codes "not") ∷ ts) (front_at 2 (front_cond names c)) lexes_not (at_lexes 2 _ _ one);
       }))
       (λ c d has has_too numbers known.
       let x : Cond-F Cond = And c d in
       let both = and_parts (are_numbers_within c) (are_numbers_within d) (sym (numbers-form x) ∙ numbers) in
-      let labels = and_parts (knows names c) (knows names d) (sym (knows-form x names) ∙ known) in
+      let labels = and_parts (knows_labels names c) (knows_labels names d) (sym (knows-form x names) ∙ known) in
       let one = has both.0 labels.0 in
       let two = has_too both.1 labels.1 in
       form_has x (record {
         same = refl;
-        lexes = joined_lexes (codes " and ") (word (codes "and")) (text_at 1 (written_cond names c)) (text_at 2 (written_cond names d)) (front_at 1 (front_cond names c)) (front_at 2 (front_cond names d))
+        lexes = joined_lexes (codes " and ") (word (codes "and")) (text_in_place 1 (bound_text names c)) (text_in_place 2 (bound_text names d)) (front_at 1 (front_cond names c)) (front_at 2 (front_cond names d))
             (λ rest. refl) lexes_and (at_lexes 1 _ _ one) (at_lexes 2 _ _ two);
       }))
       (λ c d has has_too numbers known.
       let x : Cond-F Cond = Or c d in
       let both = and_parts (are_numbers_within c) (are_numbers_within d) (sym (numbers-form x) ∙ numbers) in
-      let labels = and_parts (knows names c) (knows names d) (sym (knows-form x names) ∙ known) in
+      let labels = and_parts (knows_labels names c) (knows_labels names d) (sym (knows-form x names) ∙ known) in
       let one = has both.0 labels.0 in
       let two = has_too both.1 labels.1 in
       form_has x (record {
         same = refl;
-        lexes = joined_lexes (codes " or ") (word (codes "or")) (text_at 0 (written_cond names c)) (text_at 1 (written_cond names d)) (front_at 0 (front_cond names c)) (front_at 1 (front_cond names d))
+        lexes = joined_lexes (codes " or ") (word (codes "or")) (text_in_place 0 (bound_text names c)) (text_in_place 1 (bound_text names d)) (front_at 0 (front_cond names c)) (front_at 1 (front_cond names d))
             (λ rest. refl) lexes_or (at_lexes 0 _ _ one) (at_lexes 1 _ _ two);
       }))
 
   -- the tokens of a condition as it is written
-  pub tokens_of-written : (c : Cond) → IsTrue (are_numbers_within c) → IsTrue (knows names c) → tokens_of (cond_text names c) ≡ Some ((front_cond names c).front [])
+  pub tokens_of-written : (c : Cond) → IsTrue (are_numbers_within c) → IsTrue (knows_labels names c) → tokens_of (cond_text names c) ≡ Some ((front_cond names c).front [])
   tokens_of-written c numbers known =
       ap tokens_of (sym (append-nil (cond_text names c))) ∙ (tokens-written c numbers known).lexes [] [] refl no_tokens

@@ -2,8 +2,8 @@ ghost use Rattle.std.specs.Prelude.{◌≡◌, ◌+◌, map, IfOk, MatchResult};
 ghost use Rattle.conditions.specs.declared.condition.Cond.TheOpen as form;
 ghost use Rattle.conditions.specs.declared.condition.Cond.TheViews.{roll-Cond};
 ghost use Rattle.conditions.specs.meaning.Written.{IsWithinLimits};
-ghost use Rattle.program_grammar.specs.meaning.Grammar.{atom, bound, comparison, cond_within, condition_of, conj, inside, neg, operator};
-ghost use Rattle.program_grammar.specs.calls.Reading.{Fails, GoesOn, Parses, Reads, Takes};
+ghost use Rattle.program_grammar.specs.meaning.Grammar.{atom, bound, comparison, cond_within, condition_of, conj, nested_within, neg, operator};
+ghost use Rattle.program_grammar.specs.calls.Reading.{RefusesAs, TakesTokens, Parses, ReadsProduction, ReadsTokens};
 
 use crate::fault::{ReadError, Refusal};
 use crate::reader::ConditionReader;
@@ -32,7 +32,7 @@ pub(crate) fn parse<'t>(
 ) -> Result<(Cond, Vec<&'t [u8]>), ReadError>
     ensures parses { MatchResult result
         (λ p. Parses names.now (condition_of text.now names.now) p.0 (map (λ l. l.now) p.1.items))
-        (λ e. Fails e (condition_of text.now names.now)) }
+        (λ e. RefusesAs e (condition_of text.now names.now)) }
     ensures within { IfOk result (λ p. IsWithinLimits p.0) }
 {
     let Some(count) = count_tokens(text) else {
@@ -52,16 +52,16 @@ pub(crate) fn parse<'t>(
 impl ConditionReader<'_, '_> {
     #[tactic(auto, unfolding(crate::specs::Grammar::operator))]
     fn operator(&mut self) -> Result<Op, Refusal>
-        ensures takes { Takes self.old result self.new (operator self.old.tokens) }
-        ensures goes_on { GoesOn self.old self.new }
+        ensures takes { ReadsTokens self.old result self.new (operator self.old.tokens) }
+        ensures goes_on { TakesTokens self.old self.new }
     {
         self.take_op().ok_or(Refusal::BadLine)
     }
 
     #[tactic(auto, unfolding(crate::specs::Grammar::bound))]
     fn bound(&mut self) -> Result<u32, Refusal>
-        ensures takes { Takes self.old result self.new (bound self.old.tokens) }
-        ensures goes_on { GoesOn self.old self.new }
+        ensures takes { ReadsTokens self.old result self.new (bound self.old.tokens) }
+        ensures goes_on { TakesTokens self.old self.new }
     {
         let digits = self.take_digits().ok_or(Refusal::BadLine)?;
         value_up_to(digits, MOST_BOUND)
@@ -70,8 +70,8 @@ impl ConditionReader<'_, '_> {
     // Takes a sum that is compared with its bound.
     #[tactic(auto, unfolding(crate::specs::Grammar::comparison))]
     fn comparison(&mut self, alloc: Global) -> Result<Cond, ReadError>
-        ensures reads { Reads result self.new (comparison self.old.tokens self.old.names) }
-        ensures goes_on { GoesOn self.old self.new }
+        ensures reads { ReadsProduction result self.new (comparison self.old.tokens self.old.names) }
+        ensures goes_on { TakesTokens self.old self.new }
     {
         let sum = self.sum(alloc)?;
         let op = self.operator()?;
@@ -83,8 +83,8 @@ impl ConditionReader<'_, '_> {
     #[cycle(condition)]
     #[tactic(auto, unfolding(crate::specs::Grammar::atom))]
     fn atom(&mut self, alloc: Global, room: u32) -> Result<Cond, ReadError>
-        ensures reads { Reads result self.new (atom (inside room) self.old.tokens self.old.names) }
-        ensures goes_on { GoesOn self.old self.new }
+        ensures reads { ReadsProduction result self.new (atom (nested_within room) self.old.tokens self.old.names) }
+        ensures goes_on { TakesTokens self.old self.new }
     {
         if self.takes(&Token::Word(b"true")) {
             return Ok(Cond::True);
@@ -104,8 +104,8 @@ impl ConditionReader<'_, '_> {
     #[cycle(condition)]
     #[tactic(auto, unfolding(crate::specs::Grammar::neg))]
     fn neg(&mut self, alloc: Global, room: u32) -> Result<Cond, ReadError>
-        ensures reads { Reads result self.new (neg (inside room) self.old.tokens self.old.names) }
-        ensures goes_on { GoesOn self.old self.new }
+        ensures reads { ReadsProduction result self.new (neg (nested_within room) self.old.tokens self.old.names) }
+        ensures goes_on { TakesTokens self.old self.new }
     {
         if self.takes(&Token::Word(b"not")) {
             let room = opened(room)?;
@@ -119,8 +119,8 @@ impl ConditionReader<'_, '_> {
     #[cycle(condition)]
     #[tactic(auto, unfolding(crate::specs::Grammar::conj))]
     fn conj(&mut self, alloc: Global, room: u32) -> Result<Cond, ReadError>
-        ensures reads { Reads result self.new (conj (inside room) self.old.tokens self.old.names) }
-        ensures goes_on { GoesOn self.old self.new }
+        ensures reads { ReadsProduction result self.new (conj (nested_within room) self.old.tokens self.old.names) }
+        ensures goes_on { TakesTokens self.old self.new }
     {
         let mut left = self.neg(alloc, room)?;
         while self.takes(&Token::Word(b"and")) {
@@ -134,8 +134,8 @@ impl ConditionReader<'_, '_> {
     #[cycle(condition)]
     #[tactic(auto, unfolding(crate::specs::Grammar::cond_within))]
     pub(crate) fn cond(&mut self, alloc: Global, room: u32) -> Result<Cond, ReadError>
-        ensures reads { Reads result self.new (cond_within (inside room) self.old.tokens self.old.names) }
-        ensures goes_on { GoesOn self.old self.new }
+        ensures reads { ReadsProduction result self.new (cond_within (nested_within room) self.old.tokens self.old.names) }
+        ensures goes_on { TakesTokens self.old self.new }
     {
         let mut left = self.conj(alloc, room)?;
         while self.takes(&Token::Word(b"or")) {

@@ -2,9 +2,9 @@ ghost use Rattle.std.specs.Prelude.{◌≡◌, codes, map, IfOk, MatchResult};
 ghost use Rattle.std.specs.Option.{option_copied};
 ghost use Rattle.conditions.specs.meaning.Written.{IsWithinLimits};
 ghost use Rattle.line_fields.specs.meaning.Fields.{words_of};
-ghost use Rattle.program_grammar.specs.meaning.Header.{awaited, condition_behind, filter_of, header_said, is_first as is_first_of, is_pair as is_pair_of, is_word as is_word_of, mode_of, size_of, value_of};
-ghost use Rattle.program_grammar.specs.calls.Reading.{Fails, Parses};
-ghost use Rattle.program_grammar.specs.calls.Answers.{Answers, AnswersLine, HasRoom};
+ghost use Rattle.program_grammar.specs.meaning.Header.{awaited_word, condition_after_word, filter_of, header_said, is_first as is_first_of, is_pair as is_pair_of, is_word as is_word_of, mode_said, size_of, value_of};
+ghost use Rattle.program_grammar.specs.calls.Reading.{RefusesAs, Parses};
+ghost use Rattle.program_grammar.specs.calls.Answers.{AnswersReading, AnswersLine, HasRoom};
 
 use crate::condition::parse;
 use crate::fault::{ProgramFault, ReadError, Refusal};
@@ -78,7 +78,7 @@ impl HeaderReader {
 
     /// The first word that no line has begun with yet.
     pub fn missing(&self) -> Word
-        ensures { result ≡ awaited self.now }
+        ensures { result ≡ awaited_word self.now }
     {
         match self {
             HeaderReader::Mode => Word::Mode,
@@ -117,7 +117,7 @@ impl HeaderReader {
     #[tactic(auto, unfolding(crate::specs::Header::header_said, crate::specs::Header::said_by))]
     fn step(self, alloc: Global, line: &[u8], names: &mut Names) -> Result<HeaderStep, ReadError>
         requires { HasRoom names.old (header_said self line.now names.old) }
-        ensures { Answers names.old (header_said self line.now names.old) result names.new }
+        ensures { AnswersReading names.old (header_said self line.now names.old) result names.new }
     {
         if is_nothing(line) {
             return Ok(HeaderStep::More(self));
@@ -171,7 +171,7 @@ fn program(size: Size, filter: Filter, matching: Matching) -> Program
 /// `mode vertex` or `mode edge`.
 #[tactic(auto, unfolding(crate::specs::Header::mode_of))]
 fn read_mode(line: &[u8]) -> Result<Mode, Refusal>
-    ensures { result ≡ mode_of (words_of line.now) }
+    ensures { result ≡ mode_said (words_of line.now) }
 {
     if is_pair(line, b"mode", b"vertex") {
         Ok(Mode::Vertex)
@@ -216,7 +216,7 @@ fn read_filter(
     names: &mut Names,
 ) -> Result<Filter, ReadError>
     requires { HasRoom names.old (filter_of mode line.now names.old) }
-    ensures { Answers names.old (filter_of mode line.now names.old) result names.new }
+    ensures { AnswersReading names.old (filter_of mode line.now names.old) result names.new }
 {
     let (cond, labels) = parse_behind(alloc, b"filter", line, names)?;
     let filter = match falling(cond, mode) {
@@ -228,8 +228,8 @@ fn read_filter(
 }
 
 fn read_matching(alloc: Global, line: &[u8], names: &mut Names) -> Result<Matching, ReadError>
-    requires { HasRoom names.old (condition_behind (codes "match") line.now names.old) }
-    ensures { Answers names.old (condition_behind (codes "match") line.now names.old) result names.new }
+    requires { HasRoom names.old (condition_after_word (codes "match") line.now names.old) }
+    ensures { AnswersReading names.old (condition_after_word (codes "match") line.now names.old) result names.new }
 {
     let (cond, labels) = parse_behind(alloc, b"match", line, names)?;
     intern_all(alloc, names, labels.as_slice())?;
@@ -245,8 +245,8 @@ fn parse_behind<'t>(
     names: &Names,
 ) -> Result<(Cond, Vec<&'t [u8]>), ReadError>
     ensures parses { MatchResult result
-        (λ p. Parses names.now (condition_behind first.now line.now names.now) p.0 (map (λ l. l.now) p.1.items))
-        (λ e. Fails e (condition_behind first.now line.now names.now)) }
+        (λ p. Parses names.now (condition_after_word first.now line.now names.now) p.0 (map (λ l. l.now) p.1.items))
+        (λ e. RefusesAs e (condition_after_word first.now line.now names.now)) }
     ensures within { IfOk result (λ p. IsWithinLimits p.0) }
 {
     if !is_first(line, first) {

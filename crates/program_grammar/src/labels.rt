@@ -2,7 +2,7 @@ ghost use Rattle.std.specs.Prelude.{◌≡◌, ◌+◌, ◌≤◌, ◌<◌, ◌+
 ghost use Rattle.std.specs.Str.{bytes_eq};
 ghost use Rattle.conditions.specs.meaning.Written.{most_tokens};
 ghost use Rattle.line_fields.specs.meaning.Fields.{is_label_word};
-ghost use Rattle.program_grammar.specs.meaning.Grammar.{numbered};
+ghost use Rattle.program_grammar.specs.meaning.Grammar.{label_number};
 ghost use Rattle.program_grammar.specs.calls.Reading.{AddsFirst, AreNew};
 ghost use Rattle.line_fields.specs.meaning.Names.{most_names};
 
@@ -19,7 +19,7 @@ pub(crate) fn number_of<'t>(
     requires few { length labels.old.items < most_tokens }
     requires form { IsTrue (is_label_word label.now) }
     ensures numbered { IfOk result (λ l.
-        (l, names.now ++ map (λ l. l.now) labels.new.items) ≡ numbered (names.now ++ map (λ l. l.now) labels.old.items) label.now) }
+        (l, names.now ++ map (λ l. l.now) labels.new.items) ≡ label_number (names.now ++ map (λ l. l.now) labels.old.items) label.now) }
     ensures new { AreNew names.now (map (λ l. l.now) labels.old.items) → AreNew names.now (map (λ l. l.now) labels.new.items) }
     ensures few { length labels.new.items ≤ length labels.old.items + 1 }
 {

@@ -1,6 +1,6 @@
 ghost use Rattle.std.specs.Prelude.{◌⊎◌, map, IfOk, IsTrue};
 ghost use Rattle.program_grammar.specs.meaning.Programs.{LinesFit, ReadsProgram, RoomFor};
-ghost use Rattle.program_grammar.specs.meaning.Text.{knows};
+ghost use Rattle.program_grammar.specs.meaning.Text.{knows_labels};
 
 use crate::fault::ProgramFault;
 use crate::header::{HeaderReader, HeaderStep};
@@ -20,7 +20,7 @@ pub fn read_program(
 ) -> Result<Program, ProgramFault>
     requires { RoomFor HeaderReader.Mode names.old ⊎ LinesFit HeaderReader.Mode lines.now names.old }
     ensures reads { ReadsProgram lines.now names.old result names.new }
-    ensures known { IfOk result (λ p. IsTrue (knows names.new p.filter) × IsTrue (knows names.new p.matching)) }
+    ensures known { IfOk result (λ p. IsTrue (knows_labels names.new p.filter) × IsTrue (knows_labels names.new p.matching)) }
 {
     let mut header = HeaderReader::new();
     for (i, line) in lines.as_slice().iter().enumerate() {

@@ -2,10 +2,10 @@ ghost use Rattle.std.specs.Prelude.{◌≡◌, ◌≤◌, length, map, IfOk, IfE
 ghost use Rattle.std.specs.Bool.{MatchBool};
 ghost use Rattle.std.specs.Option.{option_copied};
 ghost use Rattle.conditions.specs.meaning.Written.{most_tokens};
-ghost use Rattle.program_grammar.specs.calls.Cursor.{is_empty, TakesFirst, token_of};
+ghost use Rattle.program_grammar.specs.calls.Cursor.{has_no_token, TakesFirst, token_of};
 ghost use Rattle.program_grammar.specs.meaning.Lexing.{tokens_in, tokens_of};
 ghost use Rattle.program_grammar.specs.meaning.Grammar.{label};
-ghost use Rattle.program_grammar.specs.calls.Reading.{GoesOn, KeepsNames, Misses, NewLabels, Passes, Reads};
+ghost use Rattle.program_grammar.specs.calls.Reading.{TakesTokens, KeepsNames, MissesToken, NewLabels, PassesToken, ReadsProduction};
 ghost use Rattle.program_grammar.specs.meaning.Token.{bytes_in, digits_in, op_in};
 
 use crate::fault::{ReadError, Refusal};
@@ -30,12 +30,12 @@ pub(crate) struct ConditionReader<'t, 'n> {
 
 impl<'t, 'n> Model for ConditionReader<'t, 'n> {
     ghost use Rattle.std.specs.Prelude.{◌+◌, ◌≤◌, ◌++◌, length, map};
-    ghost use Rattle.program_grammar.specs.calls.Reading.{AreNew, Left, left_code};
+    ghost use Rattle.program_grammar.specs.calls.Reading.{AreNew, ReaderState, reader_state_code};
     ghost use Rattle.conditions.specs.meaning.Written.{most_tokens};
 
-    ghost Value = { Left };
+    ghost Value = { ReaderState };
 
-    ghost coded = { left_code };
+    ghost coded = { reader_state_code };
 
     ghost view = { λ r. record { tokens = r.tokens; names = r.names.now ++ map (λ l. l.now) r.labels.items; known = r.names.now } };
 
@@ -60,7 +60,7 @@ impl<'t, 'n> ConditionReader<'t, 'n> {
 
     // Takes the next token if it is the one that is wanted.
     pub(crate) fn takes(&mut self, wanted: &Token<'_>) -> bool
-        ensures { MatchBool result (Passes (token_of wanted.now) self.old self.new) (Misses (token_of wanted.now) self.old self.new) }
+        ensures { MatchBool result (PassesToken (token_of wanted.now) self.old self.new) (MissesToken (token_of wanted.now) self.old self.new) }
     {
         self.tokens.takes(wanted)
     }
@@ -68,8 +68,8 @@ impl<'t, 'n> ConditionReader<'t, 'n> {
     // Takes a label.
     #[tactic(auto, unfolding(crate::specs::Grammar::label))]
     pub(crate) fn label(&mut self) -> Result<LabelId, ReadError>
-        ensures reads { Reads result self.new (label self.old.tokens self.old.names) }
-        ensures goes_on { GoesOn self.old self.new }
+        ensures reads { ReadsProduction result self.new (label self.old.tokens self.old.names) }
+        ensures goes_on { TakesTokens self.old self.new }
     {
         let word = self.tokens.take_word().ok_or(Refusal::BadLine)?;
         if !is_label(word) {
@@ -81,9 +81,9 @@ impl<'t, 'n> ConditionReader<'t, 'n> {
 
     // Takes a token that has to be next.
     pub(crate) fn expect(&mut self, wanted: &Token<'_>) -> Result<(), Refusal>
-        ensures passed { IfOk result (λ _. Passes (token_of wanted.now) self.old self.new) }
-        ensures missed { IfErr result (λ f. (f ≡ Refusal.BadLine) × Misses (token_of wanted.now) self.old self.new) }
-        ensures goes_on { GoesOn self.old self.new }
+        ensures passed { IfOk result (λ _. PassesToken (token_of wanted.now) self.old self.new) }
+        ensures missed { IfErr result (λ f. (f ≡ Refusal.BadLine) × MissesToken (token_of wanted.now) self.old self.new) }
+        ensures goes_on { TakesTokens self.old self.new }
     {
         if self.takes(wanted) {
             Ok(())
@@ -116,7 +116,7 @@ impl<'t, 'n> ConditionReader<'t, 'n> {
 
     // Whether no token is left.
     pub(crate) fn is_done(&mut self) -> bool
-        ensures done { result ≡ is_empty self.old.tokens }
+        ensures done { result ≡ has_no_token self.old.tokens }
         ensures names { KeepsNames self.old self.new }
     {
         self.tokens.next().is_none()

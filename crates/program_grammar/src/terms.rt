@@ -1,6 +1,6 @@
 ghost use Rattle.std.specs.Prelude.{◌≡◌, ◌++◌, ◌∷◌, [], IfOk};
-ghost use Rattle.program_grammar.specs.meaning.Grammar.{factor, named_term, optional_label, sum_of, term_behind, term_of, two_labels, use_of, value_up_to};
-ghost use Rattle.program_grammar.specs.calls.Reading.{GoesOn, Reads, ReadsUse, Takes};
+ghost use Rattle.program_grammar.specs.meaning.Grammar.{factor, named_term, optional_label, sum_of, term_after_name, term_of, two_labels, use_of, value_up_to};
+ghost use Rattle.program_grammar.specs.calls.Reading.{TakesTokens, ReadsProduction, ReadsUse, ReadsTokens};
 
 use crate::fault::{ReadError, Refusal};
 use crate::reader::ConditionReader;
@@ -20,8 +20,8 @@ impl ConditionReader<'_, '_> {
     // Takes the word with which a term begins.
     #[tactic(auto, unfolding(crate::specs::Grammar::named_term))]
     fn term_name(&mut self) -> Result<TermName, Refusal>
-        ensures takes { Takes self.old result self.new (named_term self.old.tokens) }
-        ensures goes_on { GoesOn self.old self.new }
+        ensures takes { ReadsTokens self.old result self.new (named_term self.old.tokens) }
+        ensures goes_on { TakesTokens self.old self.new }
     {
         let word = self.take_word().ok_or(Refusal::BadLine)?;
         read_term_name(word).ok_or(Refusal::BadLine)
@@ -30,8 +30,8 @@ impl ConditionReader<'_, '_> {
     // Takes a label in parentheses, if there is one.
     #[tactic(auto, unfolding(crate::specs::Grammar::optional_label))]
     fn optional_label(&mut self) -> Result<Option<LabelId>, ReadError>
-        ensures reads { Reads result self.new (optional_label self.old.tokens self.old.names) }
-        ensures goes_on { GoesOn self.old self.new }
+        ensures reads { ReadsProduction result self.new (optional_label self.old.tokens self.old.names) }
+        ensures goes_on { TakesTokens self.old self.new }
     {
         if !self.takes(&Token::Open) {
             return Ok(None);
@@ -44,8 +44,8 @@ impl ConditionReader<'_, '_> {
     // Takes two labels in parentheses.
     #[tactic(auto, unfolding(crate::specs::Grammar::two_labels))]
     fn two_labels(&mut self) -> Result<(LabelId, LabelId), ReadError>
-        ensures reads { Reads result self.new (two_labels self.old.tokens self.old.names) }
-        ensures goes_on { GoesOn self.old self.new }
+        ensures reads { ReadsProduction result self.new (two_labels self.old.tokens self.old.names) }
+        ensures goes_on { TakesTokens self.old self.new }
     {
         self.expect(&Token::Open)?;
         let one = self.label()?;
@@ -58,8 +58,8 @@ impl ConditionReader<'_, '_> {
     // Takes what stands behind the name of a term.
     #[tactic(auto, unfolding(crate::specs::Grammar::term_behind))]
     fn term_behind(&mut self, name: TermName) -> Result<Term, ReadError>
-        ensures reads { Reads result self.new (term_behind name self.old.tokens self.old.names) }
-        ensures goes_on { GoesOn self.old self.new }
+        ensures reads { ReadsProduction result self.new (term_after_name name self.old.tokens self.old.names) }
+        ensures goes_on { TakesTokens self.old self.new }
     {
         match name {
             TermName::Vertices => Ok(Term::Vertices(self.optional_label()?)),
@@ -77,8 +77,8 @@ impl ConditionReader<'_, '_> {
 
     #[tactic(auto, unfolding(crate::specs::Grammar::term_of))]
     fn term(&mut self) -> Result<Term, ReadError>
-        ensures reads { Reads result self.new (term_of self.old.tokens self.old.names) }
-        ensures goes_on { GoesOn self.old self.new }
+        ensures reads { ReadsProduction result self.new (term_of self.old.tokens self.old.names) }
+        ensures goes_on { TakesTokens self.old self.new }
     {
         let name = self.term_name()?;
         self.term_behind(name)
@@ -87,8 +87,8 @@ impl ConditionReader<'_, '_> {
     // Takes a factor with its `*`, if there is one.
     #[tactic(auto, unfolding(crate::specs::Grammar::factor))]
     fn factor(&mut self) -> Result<u32, Refusal>
-        ensures takes { Takes self.old result self.new (factor self.old.tokens) }
-        ensures goes_on { GoesOn self.old self.new }
+        ensures takes { ReadsTokens self.old result self.new (factor self.old.tokens) }
+        ensures goes_on { TakesTokens self.old self.new }
     {
         let Some(digits) = self.take_digits() else {
             return Ok(1);
@@ -100,8 +100,8 @@ impl ConditionReader<'_, '_> {
 
     #[tactic(auto, unfolding(crate::specs::Grammar::use_of))]
     fn use_of(&mut self) -> Result<Factor, ReadError>
-        ensures reads { Reads result self.new (use_of self.old.tokens self.old.names) }
-        ensures goes_on { GoesOn self.old self.new }
+        ensures reads { ReadsProduction result self.new (use_of self.old.tokens self.old.names) }
+        ensures goes_on { TakesTokens self.old self.new }
     {
         let times = self.factor()?;
         let term = self.term()?;
@@ -111,7 +111,7 @@ impl ConditionReader<'_, '_> {
     // Takes a `+` and a use more, if a `+` is next. There is room for `room` uses more.
     fn next_use(&mut self, room: u32) -> Result<Option<Factor>, ReadError>
         ensures reads { ReadsUse room self.old result self.new }
-        ensures goes_on { GoesOn self.old self.new }
+        ensures goes_on { TakesTokens self.old self.new }
     {
         if !self.takes(&Token::Plus) {
             return Ok(None);
@@ -125,8 +125,8 @@ impl ConditionReader<'_, '_> {
     /// Takes a sum.
     #[tactic(auto, unfolding(crate::specs::Grammar::sum_of))]
     pub(crate) fn sum(&mut self, alloc: Global) -> Result<FactorList, ReadError>
-        ensures reads { Reads result self.new (sum_of self.old.tokens self.old.names) }
-        ensures goes_on { GoesOn self.old self.new }
+        ensures reads { ReadsProduction result self.new (sum_of self.old.tokens self.old.names) }
+        ensures goes_on { TakesTokens self.old self.new }
     {
         // Meets the types that lie in an item, as in `with_use`.
         let _met: Option<(Term, LabelId)> = None;

@@ -3,8 +3,8 @@ ghost use Rattle.std.specs.Option.{option_copied, option_map};
 ghost use Rattle.std.specs.Bool.{MatchBool};
 ghost use Rattle.std.specs.Prelude.{None, Some};
 ghost use Rattle.program_grammar.specs.meaning.Lexing.{tokens_in, tokens_of};
-ghost use Rattle.program_grammar.specs.meaning.Grammar.{behind};
-ghost use Rattle.program_grammar.specs.calls.Cursor.{Splits, TakesFirst, token_of, Yields};
+ghost use Rattle.program_grammar.specs.meaning.Grammar.{tokens_after};
+ghost use Rattle.program_grammar.specs.calls.Cursor.{SplitsToken, TakesFirst, token_of, YieldsToken};
 ghost use Rattle.program_grammar.specs.meaning.Token.{bytes_in, digits_in, op_in};
 
 use crate::token::{Token, token_at};
@@ -43,7 +43,7 @@ impl<'a> Tokens<'a> {
 
     /// Takes the next token.
     pub(crate) fn next(&mut self) -> Option<Token<'a>>
-        ensures { Yields self.old result self.new }
+        ensures { YieldsToken self.old result self.new }
     {
         let (token, rest) = split_token(self.rest)?;
         self.rest = rest;
@@ -53,8 +53,8 @@ impl<'a> Tokens<'a> {
     /// Takes the next token if it is the one that is wanted.
     pub(crate) fn takes(&mut self, wanted: &Token<'_>) -> bool
         ensures { MatchBool result
-            (behind (token_of wanted.now) self.old ≡ Some self.new)
-            ((behind (token_of wanted.now) self.old ≡ None) × (self.new ≡ self.old)) }
+            (tokens_after (token_of wanted.now) self.old ≡ Some self.new)
+            ((tokens_after (token_of wanted.now) self.old ≡ None) × (self.new ≡ self.old)) }
     {
         let Some((token, rest)) = split_token(self.rest) else {
             return false;
@@ -115,7 +115,7 @@ pub(crate) fn count_tokens(text: &[u8]) -> Option<usize>
 // The next token of a text and what stands behind it.
 fn split_token(text: &[u8]) -> Option<(Token<'_>, &[u8])>
     requires { IsSome (tokens_of text.now) }
-    ensures { Splits text.now result }
+    ensures { SplitsToken text.now result }
 {
     let front = trim_start(text);
     let (token, size) = token_at(front)?;

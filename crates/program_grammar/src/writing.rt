@@ -2,7 +2,7 @@ ghost use Rattle.std.specs.List.{list_all};
 ghost use Rattle.line_fields.specs.meaning.Names.{Names as NameList};
 ghost use Rattle.std.specs.Prelude.{◌≡◌, ◌<◌, ◌++◌, codes, decimal, length, IfOk, IsTrue, Ok, OnOk};
 ghost use Rattle.program_grammar.specs.meaning.Programs.{LinesFit, program_said};
-ghost use Rattle.program_grammar.specs.meaning.Text.{cond_text, factor_text, knows, knows_term, label_text, mode_text, op_text, program_text, sum_text, term_text, text_at, written_cond};
+ghost use Rattle.program_grammar.specs.meaning.Text.{cond_text, factor_text, knows_labels, knows_term, label_text, mode_text, op_text, program_text, sum_text, term_text, text_in_place, bound_text};
 
 use crate::header::HeaderReader;
 use filter_polarity::Program;
@@ -17,8 +17,8 @@ use line_fields::Names;
 /// in a use of a term and none right inside of parentheses. Read with these names they give the program back, and add
 /// no name. Takes time linear in the lines.
 pub fn write_program(alloc: Global, p: &Program, names: &Names) -> Result<LineList, NoMemory>
-    requires filter_known { IsTrue (knows names.now p.now.filter) }
-    requires matching_known { IsTrue (knows names.now p.now.matching) }
+    requires filter_known { IsTrue (knows_labels names.now p.now.filter) }
+    requires matching_known { IsTrue (knows_labels names.now p.now.matching) }
     ensures written { IfOk result (λ lines. lines ≡ program_text names.now p.now) }
     ensures fits { IfOk result (λ lines. LinesFit HeaderReader.Mode lines names.now) }
     ensures read_back { IfOk result (λ lines. program_said lines names.now ≡ (Ok p.now, names.now)) }
@@ -60,7 +60,7 @@ fn size_line(alloc: Global, size: u8) -> Result<ByteList, NoMemory>
 }
 
 fn cond_line(alloc: Global, word: &[u8], cond: &Cond, names: &Names) -> Result<ByteList, NoMemory>
-    requires { IsTrue (knows names.now cond.now) }
+    requires { IsTrue (knows_labels names.now cond.now) }
     ensures { IfOk result (λ line. line ≡ word.now ++ cond_text names.now cond.now) }
 {
     let mut line = word_line(alloc, word)?;
@@ -70,7 +70,7 @@ fn cond_line(alloc: Global, word: &[u8], cond: &Cond, names: &Names) -> Result<B
 
 #[cycle(put)]
 fn put_cond(line: &mut ByteList, cond: &Cond, names: &Names) -> Result<(), NoMemory>
-    requires { IsTrue (knows names.now cond.now) }
+    requires { IsTrue (knows_labels names.now cond.now) }
     ensures { OnOk result (line.new ≡ line.old ++ cond_text names.now cond.now) }
 {
     match cond {
@@ -103,8 +103,8 @@ fn put_cond(line: &mut ByteList, cond: &Cond, names: &Names) -> Result<(), NoMem
 // In parentheses where the condition binds less than its place asks.
 #[cycle(put)]
 fn put_at(line: &mut ByteList, asked: u8, cond: &Cond, names: &Names) -> Result<(), NoMemory>
-    requires { IsTrue (knows names.now cond.now) }
-    ensures { OnOk result (line.new ≡ line.old ++ text_at asked (written_cond names.now cond.now)) }
+    requires { IsTrue (knows_labels names.now cond.now) }
+    ensures { OnOk result (line.new ≡ line.old ++ text_in_place asked (bound_text names.now cond.now)) }
 {
     if binding(cond) >= asked {
         return put_cond(line, cond, names);
@@ -116,7 +116,7 @@ fn put_at(line: &mut ByteList, asked: u8, cond: &Cond, names: &Names) -> Result<
 
 // How tightly a condition binds.
 fn binding(cond: &Cond) -> u8
-    ensures { (names : NameList) → result ≡ (written_cond names cond.now).binding }
+    ensures { (names : NameList) → result ≡ (bound_text names cond.now).binding }
 {
     match cond {
         Cond::Or(_, _) => 0,

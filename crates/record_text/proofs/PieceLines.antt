@@ -7,7 +7,7 @@ use Rattle.std.proofs.lemmas.Grind.{flat_map-append}
 use Rattle.std.proofs.lemmas.Option.{slice_get_read}
 use Rattle.graph_types.specs.declared.member.Member.{Member}
 use Rattle.graph_types.specs.meaning.Piece.{PieceValue, members_of_all}
-use Rattle.job_io.specs.calls.Ends.{AppendsFront, PassesOn}
+use Rattle.job_io.specs.calls.Ends.{AppendsPrefix, PassesOn}
 use Rattle.job_io.proofs.Gathering.{PassesOn-then, AppendsFront-then, AppendsFront-more}
 use Rattle.record_text.proofs.BegunLine.{flat_map-take_more}
 
@@ -45,12 +45,12 @@ module _ (line_with : List Member → List ℕ) where
 
   -- the line at a place could not be passed on
   pub fails-at : (pieces : List PieceValue) (i : ℕ) (p : PieceValue) (line : List ℕ) (old mid new : Option (List ℕ)) (held holds : List ℕ) → i < length pieces → p ≡ get_or pieces i p →
-      line ≡ line_with p.members → PassesOn old held mid holds (text_of (take i pieces)) → AppendsFront mid new (holds ++ line) →
-      AppendsFront old new (held ++ text_of pieces)
+      line ≡ line_with p.members → PassesOn old held mid holds (text_of (take i pieces)) → AppendsPrefix mid new (holds ++ line) →
+      AppendsPrefix old new (held ++ text_of pieces)
   fails-at pieces i p line old mid new held holds within is line_is so_far front =
       let first = text_of (take (i + 1) pieces) in
       let rest = text_of (drop (i + 1) pieces) in
-      let at_line : AppendsFront old new (held ++ first) =
-      subst (λ text. AppendsFront old new (held ++ text)) (ap (λ xs. text_of (take i pieces) ++ xs) line_is ∙ sym (lines-more pieces i p within is))
+      let at_line : AppendsPrefix old new (held ++ first) =
+      subst (λ text. AppendsPrefix old new (held ++ text)) (ap (λ xs. text_of (take i pieces) ++ xs) line_is ∙ sym (lines-more pieces i p within is))
       (AppendsFront-then line so_far front) in
-      subst (AppendsFront old new) (append_assoc held first rest ∙ ap (λ text. held ++ text) (sym (lines-split pieces (i + 1)))) (AppendsFront-more rest at_line)
+      subst (AppendsPrefix old new) (append_assoc held first rest ∙ ap (λ text. held ++ text) (sym (lines-split pieces (i + 1)))) (AppendsFront-more rest at_line)

@@ -11,7 +11,7 @@ use Rattle.graph_types.specs.declared.ids.Mode.{Mode}
 use Rattle.graph_types.specs.declared.ids.Mode.TheVariants as mode
 use Rattle.graph_types.specs.declared.member.Member.{Member}
 use Rattle.graph_types.specs.meaning.Orders.{member_cmp_total}
-use Rattle.graph_types.specs.meaning.Piece.{PieceValue, CanJoin, joined, is_ascending, member_cmp, member_eq, member_lt, mode_cmp, mode_of, most_members, with_member}
+use Rattle.graph_types.specs.meaning.Piece.{PieceValue, CanJoin, with_joined, is_ascending, member_cmp, member_eq, member_lt, mode_cmp, mode_of, most_members, with_member}
 use Rattle.record_text.specs.meaning.Grammar.{are_alike, member_of, members_said, piece_made, piece_said}
 use Rattle.mining_model.proofs.Ascending.{IsStrictlySortedBy-append, all-weaker}
 use Rattle.record_text.proofs.Sorted.{sorted-parts, sorted-one, all-append_parts, all-below_last, absent_above, sorted_from_ascending, ascending_from_sorted, less}
@@ -76,7 +76,7 @@ module _ (piece : PieceValue) (last m first : Member) (rest front : List Member)
       subst (AllByRecursion (λ x. member_cmp x m ≡ Less)) (sym ends)
       (all-below_last member_cmp_total front last m (subst (IsStrictlySortedBy member_cmp) ends sorted) below)
 
-  grows : IsTrue (member_lt last m) → CanJoin piece m → Makes first (rest ++ m ∷ []) (joined piece m)
+  grows : IsTrue (member_lt last m) → CanJoin piece m → Makes first (rest ++ m ∷ []) (with_joined piece m)
   grows above can =
       let below = all_below (less (member_cmp last m) above) in
       let kind : mode_of m ≡ mode_of first = can.same_mode ∙ ap (λ p. p.mode) (sym makes.is) in
@@ -111,13 +111,13 @@ begins : (members : List Member) (piece : PieceValue) → piece_made members ≡
 begins [] piece made = absurd (cc)
 begins (first ∷ rest) piece made = (first, rest, refl, Makes-of first rest piece made)
 
-pub IsRead-more : (piece : PieceValue) (last m : Member) → IsRead piece last → IsTrue (member_lt last m) × CanJoin piece m → IsRead (joined piece m) m × (with_member piece.members m ≡ piece.members ++ m ∷ [])
+pub IsRead-more : (piece : PieceValue) (last m : Member) → IsRead piece last → IsTrue (member_lt last m) × CanJoin piece m → IsRead (with_joined piece m) m × (with_member piece.members m ≡ piece.members ++ m ∷ [])
 IsRead-more piece last m read can =
     let begun = begins piece.members piece read.made in
     let grown = grows piece last m begun.0 begun.1 read.front begun.3 (sym begun.2 ∙ read.ends) can.0 can.1 in
     let members : with_member piece.members m ≡ piece.members ++ m ∷ [] = sym (ap (λ p. p.members) grown.is) ∙ ap (λ ms. ms ++ m ∷ []) (sym begun.2) in (
       record {
-        made = ap piece_made (sym (ap (λ p. p.members) grown.is)) ∙ piece_made-of begun.0 (begun.1 ++ m ∷ []) (joined piece m) grown;
+        made = ap piece_made (sym (ap (λ p. p.members) grown.is)) ∙ piece_made-of begun.0 (begun.1 ++ m ∷ []) (with_joined piece m) grown;
         front = piece.members;
         ends = members;
       },
@@ -167,7 +167,7 @@ goes_on-stops piece last m word words read said cannot =
     goes_on-member piece.members word words m said ∙ by_rest (members_said words)
 
 -- a member that follows
-pub goes_on-more : (piece : PieceValue) (last m : Member) (word : List ℕ) (words : List (List ℕ)) → IsRead piece last → member_of word ≡ Some m → IsTrue (member_lt last m) × CanJoin piece m → goes_on piece.members (word ∷ words) ≡ goes_on (joined piece m).members words
+pub goes_on-more : (piece : PieceValue) (last m : Member) (word : List ℕ) (words : List (List ℕ)) → IsRead piece last → member_of word ≡ Some m → IsTrue (member_lt last m) × CanJoin piece m → goes_on piece.members (word ∷ words) ≡ goes_on (with_joined piece m).members words
 goes_on-more piece last m word words read said can =
     goes_on-member piece.members word words m said ∙ ap (λ ms. goes_on ms words) (sym (IsRead-more piece last m read can).1)
 

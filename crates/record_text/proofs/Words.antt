@@ -9,7 +9,7 @@ use Rattle.std.proofs.lemmas.List.{take_all, length-drop}
 use Rattle.std.proofs.lemmas.List.Sums.{fails_before_first}
 use Rattle.line_fields.specs.meaning.Fields.{is_digit, has_bytes, value_after, words_of, trim_start, after_word, skip_words, rest_of, id_of}
 use Rattle.line_fields.proofs.WordsOf.{words_of-trim_start, words_of-first, trim_start-first}
-use Rattle.record_text.specs.meaning.Grammar.{is_dash, edge_from, edge_said, member_of_parts}
+use Rattle.record_text.specs.meaning.Grammar.{is_dash, edge_of_ends, edge_said, member_of_parts}
 
 -- ---- words
 
@@ -55,8 +55,8 @@ id_of-other word other =
 
 edge_said-none : (low high : List ℕ) → id_of high ≡ None → edge_said low high ≡ None
 edge_said-none low high none =
-    let nothing : (o : Option ℕ) → option_and_then (λ x. option_and_then (edge_from x) None) o ≡ None = elim [ None ↦ refl | Some x ↦ refl ] in
-    ap (λ o. option_and_then (λ x. option_and_then (edge_from x) o) (id_of low)) none ∙ nothing (id_of low)
+    let nothing : (o : Option ℕ) → option_and_then (λ x. option_and_then (edge_of_ends x) None) o ≡ None = elim [ None ↦ refl | Some x ↦ refl ] in
+    ap (λ o. option_and_then (λ x. option_and_then (edge_of_ends x) o) (id_of low)) none ∙ nothing (id_of low)
 
 -- a part and then others make a member where the others are one part, and both are ids
 pub member_of_parts-more : (low high : List ℕ) → member_of_parts (low ∷ slice_split is_dash high) ≡ edge_said low high

@@ -16,10 +16,10 @@ use Rattle.graph_types.specs.declared.member.Member.TheVariants as member
 use Rattle.graph_types.specs.meaning.Piece.{PieceValue, IsPiece, IsOfMode, HasLowerFirst, is_ascending, mode_cmp, mode_of, most_members}
 use Rattle.line_fields.specs.meaning.Fields.{has_bytes, is_blank, is_digit, words_of}
 use Rattle.job_io.specs.meaning.Lines.{HasNoLf, cr, lf, without_cr}
-use Rattle.record_text.specs.meaning.Text.{done_text, member_text, record_line, spaced}
+use Rattle.record_text.specs.meaning.Text.{done_text, member_text, record_line, after_space}
 use Rattle.record_text.specs.declared.read.RecordLine.{RecordLine}
 use Rattle.record_text.specs.declared.read.RecordLine.TheVariants.{Rem, Add, Done}
-use Rattle.record_text.specs.meaning.Grammar.{are_alike, edge_from, is_dash, line_said, member_of, member_of_parts, members_said, piece_made, piece_said, record_of}
+use Rattle.record_text.specs.meaning.Grammar.{are_alike, edge_of_ends, is_dash, line_said, member_of, member_of_parts, members_said, piece_made, piece_said, record_of}
 use Rattle.record_text.specs.meaning.Writable.{HasShortIds, IsStamp, IsWritable}
 use Rattle.record_text.proofs.Numbers.{digits-decimal, has_bytes-decimal, id_of-decimal, number_of-decimal}
 use Rattle.record_text.proofs.Pieces.{Makes, piece_made-of, mode_itself}
@@ -58,7 +58,7 @@ words_of-spaced word rest is =
 
 -- a first word, and each other one behind a space
 abbrev pub spread : List ℕ → List (List ℕ) → List ℕ
-spread word words = word ++ flat_map spaced words
+spread word words = word ++ flat_map after_space words
 
 pub words_of-spread : (word : List ℕ) (words : List (List ℕ)) → IsWord word → AllByRecursion IsWord words → words_of (spread word words) ≡ word ∷ words
 words_of-spread word [] is all = ap words_of (append-nil word) ∙ words_of-word word is
@@ -74,15 +74,15 @@ printed_from_graphic (b ∷ word) graphic =
     let parts = and_parts (is_graphic b) (list_all is_graphic word) graphic in
     and_from _ _ (le-leb 32 b (omega (arith, leb-true 33 b parts.0))) (printed_from_graphic word parts.1)
 
-printed-spaced : (words : List (List ℕ)) → AllByRecursion IsWord words → list_all is_printed (flat_map spaced words) ≡ true
+printed-spaced : (words : List (List ℕ)) → AllByRecursion IsWord words → list_all is_printed (flat_map after_space words) ≡ true
 printed-spaced [] all = refl
 printed-spaced (w ∷ words) all =
-    list_all-append is_printed (spaced w) (flat_map spaced words)
+    list_all-append is_printed (after_space w) (flat_map after_space words)
     ∙ and_from _ _ (printed_from_graphic w all.0.graphic) (printed-spaced words all.1)
 
 pub printed-spread : (word : List ℕ) (words : List (List ℕ)) → IsWord word → AllByRecursion IsWord words → list_all is_printed (spread word words) ≡ true
 printed-spread word words is all =
-    list_all-append is_printed word (flat_map spaced words)
+    list_all-append is_printed word (flat_map after_space words)
     ∙ and_from _ _ (printed_from_graphic word is.graphic) (printed-spaced words all)
 
 -- such a line keeps all of its bytes as a line of a text
@@ -156,7 +156,7 @@ member_of-member_text (member.Edge e) short lower =
     ∙ slice_split_at is_dash low 45 high no_dashes refl
     ∙ ap (λ parts. low ∷ parts) (slice_split-digits high (digits-decimal e.1 (fits_of e.1 short.1))) in
     ap member_of_parts parts
-    ∙ (λ i. option_and_then (λ x. option_and_then (edge_from x) (id_of-decimal e.1 short.1 i)) (id_of-decimal e.0 short.0 i))
+    ∙ (λ i. option_and_then (λ x. option_and_then (edge_of_ends x) (id_of-decimal e.1 short.1 i)) (id_of-decimal e.0 short.0 i))
     ∙ ap (λ b. if b then Some (member.Edge e) else None) (lt-ltb e.0 e.1 lower)
 
 members_said-texts : (members : List Member) → AllByRecursion HasShortIds members → AllByRecursion HasLowerFirst members → members_said (map member_text members) ≡ Some members
@@ -199,8 +199,8 @@ pub record IsWritten (line : List ℕ) (said : RecordLine) : Type 0 where
 record_words : (word : List ℕ) (t : ℕ) (members : List Member) → record_line word t members ≡ spread word (decimal t ∷ map member_text members) ++ codes "\n"
 record_words word t members =
     ap (λ text. text ++ codes "\n")
-    (ap (λ text. word ++ spaced (decimal t) ++ text) (sym (flat_map-map spaced member_text members))
-    ∙ append_assoc word (spaced (decimal t)) (flat_map spaced (map member_text members)))
+    (ap (λ text. word ++ after_space (decimal t) ++ text) (sym (flat_map-map after_space member_text members))
+    ∙ append_assoc word (after_space (decimal t)) (flat_map after_space (map member_text members)))
 
 written : (word : List ℕ) (words : List (List ℕ)) (line : List ℕ) (said : RecordLine) → IsWord word → AllByRecursion IsWord words → line ≡ spread word words → line_said (word ∷ words) ≡ Some said → IsWritten line said
 written word words line said is all is_line says = record {

@@ -1,5 +1,5 @@
 ghost use Rattle.std.specs.Prelude.{◌≡◌, ◌+◌, ◌≤◌, ◌++◌, length, take};
-ghost use Rattle.record_text.specs.meaning.Text.{done_text, member_text, record_line, spaced};
+ghost use Rattle.record_text.specs.meaning.Text.{done_text, member_text, record_line, after_space};
 ghost use Rattle.record_text.specs.meaning.Listing.{members_text, piece_line};
 
 use graph_types::{Member, Piece, Stamp};
@@ -59,7 +59,7 @@ fn begin_listed(piece: &Piece) -> ShortLine
 /// Adds a space and the member.
 fn push_spaced(line: &mut ShortLine, member: Member)
     requires { length line.old + 42 ≤ SHORT_LINE_BYTES }
-    ensures text { line.new ≡ line.old ++ spaced (member_text member) }
+    ensures text { line.new ≡ line.old ++ after_space (member_text member) }
     ensures short { length line.new ≤ length line.old + 42 }
 {
     line.push(b" ");

@@ -1,6 +1,6 @@
 ghost use Rattle.std.specs.Prelude.{◌≡◌, ◌∷◌, [], IsTrue, MatchOption, MatchResult, Some, SomeIff, position};
 ghost use Rattle.std.specs.List.{slice_split};
-ghost use Rattle.graph_types.specs.meaning.Piece.{CanJoin, joined, member_lt, mode_of};
+ghost use Rattle.graph_types.specs.meaning.Piece.{CanJoin, with_joined, member_lt, mode_of};
 ghost use Rattle.line_fields.specs.meaning.Fields.{words_of};
 ghost use Rattle.record_text.specs.meaning.Grammar.{edge_said, is_dash, member_of, piece_said, record_of, record_said};
 
@@ -92,7 +92,7 @@ fn piece_of(member: Member) -> Option<Piece>
 /// The piece with a member above its last one.
 fn with_next(piece: &Piece, last: &Member, member: &Member) -> Option<Piece>
     ensures { SomeIff result (IsTrue (member_lt last.now member.now) × CanJoin piece.now member.now)
-        (joined piece.now member.now) }
+        (with_joined piece.now member.now) }
 {
     if *last < *member {
         piece.with(*member)

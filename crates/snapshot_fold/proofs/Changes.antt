@@ -16,9 +16,9 @@ use Rattle.graph_types.specs.declared.member.Member.{Member}
 use Rattle.graph_types.specs.meaning.Orders.{piece_cmp_total}
 use Rattle.graph_types.specs.meaning.Piece.{PieceValue, member_cmp, mode_cmp, piece_cmp}
 use Rattle.graph_types.proofs.Members.{member_cmp-IsAntisymmetric, piece_cmp-IsAntisymmetric}
-use Rattle.mining_model.specs.meaning.Changes.{same_members, without}
+use Rattle.mining_model.specs.meaning.Changes.{same_members, difference}
 use Rattle.mining_model.proofs.Ascending.{IsStrictlySortedBy-map, all-map}
-use Rattle.snapshot_fold.specs.meaning.Pieces.{is_among, is_same, with_piece, without_piece}
+use Rattle.snapshot_fold.specs.meaning.Pieces.{has_piece, is_same_piece, with_piece, without_piece}
 use Rattle.snapshot_fold.specs.meaning.Records.{pieces_of}
 use Rattle.snapshot_fold.proofs.Ascending.{among-insert_key, among-remove_key, is_tie, same_list, sorted-insert_key, sorted-remove_key}
 use Rattle.snapshot_fold.proofs.Each.{all-found, all-kept, all-map-filter}
@@ -35,7 +35,7 @@ with_all held [] = held
 with_all held (p ∷ pieces) = with_all (with_piece held p) pieces
 
 pub ascends-without : (held : List PieceValue) (p : PieceValue) → Ascends held → Ascends (without_piece held p)
-ascends-without held p = sorted-remove_key piece_cmp_total piece_cmp-IsAntisymmetric (is_same p) held
+ascends-without held p = sorted-remove_key piece_cmp_total piece_cmp-IsAntisymmetric (is_same_piece p) held
 
 pub ascends-with : (held : List PieceValue) (p : PieceValue) → Ascends held → Ascends (with_piece held p)
 ascends-with held p = sorted-insert_key piece_cmp_total piece_cmp-IsAntisymmetric p held
@@ -48,10 +48,10 @@ ascends-with_all : (held pieces : List PieceValue) → Ascends held → Ascends 
 ascends-with_all held [] s = s
 ascends-with_all held (p ∷ pieces) s = ascends-with_all (with_piece held p) pieces (ascends-with held p s)
 
-pub among-without : (held : List PieceValue) (p q : PieceValue) → Ascends held → is_among (without_piece held p) q ≡ (not (is_same q p) && is_among held q)
+pub among-without : (held : List PieceValue) (p q : PieceValue) → Ascends held → has_piece (without_piece held p) q ≡ (not (is_same_piece q p) && has_piece held q)
 among-without held p q s = among-remove_key piece_cmp_total piece_cmp-IsAntisymmetric p held s q
 
-pub among-with : (held : List PieceValue) (p q : PieceValue) → is_among (with_piece held p) q ≡ (is_same q p || is_among held q)
+pub among-with : (held : List PieceValue) (p q : PieceValue) → has_piece (with_piece held p) q ≡ (is_same_piece q p || has_piece held q)
 among-with held p q = among-insert_key piece_cmp_total piece_cmp-IsAntisymmetric p held q
 
 not_either : (a b c : Bool) → (not b && (not a && c)) ≡ (not (a || b) && c)
@@ -64,19 +64,19 @@ either true true c = refl
 either true false c = refl
 either false b c = refl
 
-pub among-without_all : (held pieces : List PieceValue) (q : PieceValue) → Ascends held → is_among (without_all held pieces) q ≡ (not (is_among pieces q) && is_among held q)
+pub among-without_all : (held pieces : List PieceValue) (q : PieceValue) → Ascends held → has_piece (without_all held pieces) q ≡ (not (has_piece pieces q) && has_piece held q)
 among-without_all held [] q s = refl
 among-without_all held (p ∷ pieces) q s =
     among-without_all (without_piece held p) pieces q (ascends-without held p s)
-    ∙ ap (λ b. not (is_among pieces q) && b) (among-without held p q s)
-    ∙ not_either (is_same q p) (is_among pieces q) (is_among held q)
+    ∙ ap (λ b. not (has_piece pieces q) && b) (among-without held p q s)
+    ∙ not_either (is_same_piece q p) (has_piece pieces q) (has_piece held q)
 
-among-with_all : (held pieces : List PieceValue) (q : PieceValue) → is_among (with_all held pieces) q ≡ (is_among pieces q || is_among held q)
+among-with_all : (held pieces : List PieceValue) (q : PieceValue) → has_piece (with_all held pieces) q ≡ (has_piece pieces q || has_piece held q)
 among-with_all held [] q = refl
 among-with_all held (p ∷ pieces) q =
     among-with_all (with_piece held p) pieces q
-    ∙ ap (λ b. is_among pieces q || b) (among-with held p q)
-    ∙ either (is_same q p) (is_among pieces q) (is_among held q)
+    ∙ ap (λ b. has_piece pieces q || b) (among-with held p q)
+    ∙ either (is_same_piece q p) (has_piece pieces q) (has_piece held q)
 
 -- ---- pieces of one mode
 
@@ -90,7 +90,7 @@ module _ (kind : Mode) where
   pub ascends-pieces_of : (lists : List (List Member)) → IsStrictlySortedBy (slice_cmp member_cmp) lists → Ascends (pieces_of kind lists)
   ascends-pieces_of lists s = IsStrictlySortedBy-map (slice_cmp member_cmp) piece_cmp piece (λ p q less. one_mode p q ∙ less) lists s
 
-  same_parts : (q : PieceValue) (members : List Member) → is_same q (piece members) ≡ (is_eq (mode_cmp q.mode kind) && same_members q.members members)
+  same_parts : (q : PieceValue) (members : List Member) → is_same_piece q (piece members) ≡ (is_eq (mode_cmp q.mode kind) && same_members q.members members)
   same_parts q members =
       elim (mode_cmp q.mode kind) as (λ o. is_eq (ordering_then o (slice_cmp member_cmp q.members members)) ≡ (is_eq o && same_members q.members members)) [
         | Less ↦ refl
@@ -99,7 +99,7 @@ module _ (kind : Mode) where
       ]
 
   -- a piece is among those of a mode where its mode is that one, and its members are among theirs
-  among-pieces_of : (lists : List (List Member)) (q : PieceValue) → is_among (pieces_of kind lists) q ≡ (is_eq (mode_cmp q.mode kind) && list_any (same_members q.members) lists)
+  among-pieces_of : (lists : List (List Member)) (q : PieceValue) → has_piece (pieces_of kind lists) q ≡ (is_eq (mode_cmp q.mode kind) && list_any (same_members q.members) lists)
   among-pieces_of [] q = sym (and_right (is_eq (mode_cmp q.mode kind)) false refl)
   among-pieces_of (members ∷ lists) q =
       let m = is_eq (mode_cmp q.mode kind) in
@@ -108,7 +108,7 @@ module _ (kind : Mode) where
       ∙ spread m (same_members q.members members) (list_any (same_members q.members) lists)
 
   -- the members that are among others are left out
-  among-left : (members : List Member) (lists others : List (List Member)) → list_any (same_members members) (without lists others) ≡ (not (list_any (same_members members) others) && list_any (same_members members) lists)
+  among-left : (members : List Member) (lists others : List (List Member)) → list_any (same_members members) (difference lists others) ≡ (not (list_any (same_members members) others) && list_any (same_members members) lists)
   among-left members lists others =
       any-filter_same (same_members members) (λ p. not (list_any (same_members p) others)) (not (list_any (same_members members) others))
       (λ p tied. ap (λ x. not (list_any (same_members x) others)) (sym (slice_cmp-IsAntisymmetric member_cmp-IsAntisymmetric members p (is_tie _ tied)))) lists
@@ -122,31 +122,31 @@ module _ (kind : Mode) where
 
   module _ (before now : List (List Member)) (before_sorted : IsStrictlySortedBy (slice_cmp member_cmp) before) (now_sorted : IsStrictlySortedBy (slice_cmp member_cmp) now) where
     abbrev went : List PieceValue
-    went = pieces_of kind (without before now)
+    went = pieces_of kind (difference before now)
 
     abbrev came : List PieceValue
-    came = pieces_of kind (without now before)
+    came = pieces_of kind (difference now before)
 
-    pub went-ascends : Ascends (pieces_of kind (without before now))
-    went-ascends = ascends-pieces_of (without before now) (IsStrictlySortedBy-filter (slice_cmp member_cmp) (λ p. not (list_any (same_members p) now)) before before_sorted)
+    pub went-ascends : Ascends (pieces_of kind (difference before now))
+    went-ascends = ascends-pieces_of (difference before now) (IsStrictlySortedBy-filter (slice_cmp member_cmp) (λ p. not (list_any (same_members p) now)) before before_sorted)
 
-    pub came-ascends : Ascends (pieces_of kind (without now before))
-    came-ascends = ascends-pieces_of (without now before) (IsStrictlySortedBy-filter (slice_cmp member_cmp) (λ p. not (list_any (same_members p) before)) now now_sorted)
+    pub came-ascends : Ascends (pieces_of kind (difference now before))
+    came-ascends = ascends-pieces_of (difference now before) (IsStrictlySortedBy-filter (slice_cmp member_cmp) (λ p. not (list_any (same_members p) before)) now now_sorted)
 
-    pub went-there : AllByRecursion (λ p. is_among (pieces_of kind before) p ≡ true) (pieces_of kind (without before now))
+    pub went-there : AllByRecursion (λ p. has_piece (pieces_of kind before) p ≡ true) (pieces_of kind (difference before now))
     went-there =
-        all-map-filter (λ p. not (list_any (same_members p) now)) (λ p. is_among (pieces_of kind before) p ≡ true) piece before
-        (all-found is_same (λ p. ap is_eq (tied_itself piece_cmp_total p)) (pieces_of kind before))
+        all-map-filter (λ p. not (list_any (same_members p) now)) (λ p. has_piece (pieces_of kind before) p ≡ true) piece before
+        (all-found is_same_piece (λ p. ap is_eq (tied_itself piece_cmp_total p)) (pieces_of kind before))
 
-    pub came-absent : AllByRecursion (λ p. is_among (without_all (pieces_of kind before) (pieces_of kind (without before now))) p ≡ false) (pieces_of kind (without now before))
+    pub came-absent : AllByRecursion (λ p. has_piece (without_all (pieces_of kind before) (pieces_of kind (difference before now))) p ≡ false) (pieces_of kind (difference now before))
     came-absent =
-        all-map (λ p. not (list_any (same_members p) before) ≡ true) (λ p. is_among (without_all (pieces_of kind before) went) p ≡ false) piece
+        all-map (λ p. not (list_any (same_members p) before) ≡ true) (λ p. has_piece (without_all (pieces_of kind before) went) p ≡ false) piece
         (λ p absent.
         among-without_all (pieces_of kind before) went (piece p) (ascends-pieces_of before before_sorted)
-        ∙ and_right (not (is_among went (piece p))) _ (among-pieces_of before (piece p) ∙ and_right (is_eq (mode_cmp kind kind)) _ (not-true _ absent)))
-        (without now before) (all-kept (λ p. not (list_any (same_members p) before)) now)
+        ∙ and_right (not (has_piece went (piece p))) _ (among-pieces_of before (piece p) ∙ and_right (is_eq (mode_cmp kind kind)) _ (not-true _ absent)))
+        (difference now before) (all-kept (λ p. not (list_any (same_members p) before)) now)
 
-    pub changes : with_all (without_all (pieces_of kind before) (pieces_of kind (without before now))) (pieces_of kind (without now before)) ≡ pieces_of kind now
+    pub changes : with_all (without_all (pieces_of kind before) (pieces_of kind (difference before now))) (pieces_of kind (difference now before)) ≡ pieces_of kind now
     changes =
         same_list piece_cmp_total piece_cmp-IsAntisymmetric _ _
         (ascends-with_all (without_all (pieces_of kind before) went) came (ascends-without_all (pieces_of kind before) went (ascends-pieces_of before before_sorted)))
@@ -155,10 +155,10 @@ module _ (kind : Mode) where
         let m = is_eq (mode_cmp q.mode kind) in
         let a = list_any (same_members q.members) before in
         let b = list_any (same_members q.members) now in
-        let went_is : is_among went q ≡ (m && (not b && a)) = among-pieces_of (without before now) q ∙ ap (λ x. m && x) (among-left q.members before now) in
-        let came_is : is_among came q ≡ (m && (not a && b)) = among-pieces_of (without now before) q ∙ ap (λ x. m && x) (among-left q.members now before) in
+        let went_is : has_piece went q ≡ (m && (not b && a)) = among-pieces_of (difference before now) q ∙ ap (λ x. m && x) (among-left q.members before now) in
+        let came_is : has_piece came q ≡ (m && (not a && b)) = among-pieces_of (difference now before) q ∙ ap (λ x. m && x) (among-left q.members now before) in
         among-with_all (without_all (pieces_of kind before) went) came q
-        ∙ ap (λ x. is_among came q || x) (among-without_all (pieces_of kind before) went q (ascends-pieces_of before before_sorted))
+        ∙ ap (λ x. has_piece came q || x) (among-without_all (pieces_of kind before) went q (ascends-pieces_of before before_sorted))
         ∙ (λ i. came_is i || (not (went_is i) && among-pieces_of before q i))
         ∙ changed m a b
         ∙ sym (among-pieces_of now q))

@@ -11,11 +11,11 @@ use Rattle.job_io.specs.meaning.Lines.{GivesLine, StopsInLine}
 use Rattle.job_io.proofs.LinesOf.{whole_lines_of-whole, whole_lines_of-none}
 use Rattle.snapshot_fold.specs.declared.folding.FoldStop.{FoldStop}
 use Rattle.snapshot_fold.specs.declared.folding.FoldStop.TheVariants as stop
-use Rattle.snapshot_fold.specs.meaning.FoldState.{FoldState, start}
-use Rattle.snapshot_fold.specs.meaning.Folding.{one_line, is_reached, at_end, led_on, folded_from, folded}
+use Rattle.snapshot_fold.specs.meaning.FoldState.{FoldState, empty_fold}
+use Rattle.snapshot_fold.specs.meaning.Folding.{state_after_one_line, is_reached, outcome_at_end, outcome_after, fold_outcome_from, fold_outcome}
 use Rattle.snapshot_fold.specs.meaning.Folding.{last_done_from, last_done}
-use Rattle.snapshot_fold.specs.calls.Folds.{IsToCome, IsUnended, Folds, AreTold}
-use Rattle.snapshot_fold.specs.calls.Reading.{Gives, LeadsOn, ComesTo, TakesLine}
+use Rattle.snapshot_fold.specs.calls.Folds.{IsToCome, IsUnended, FoldsRecords, AreTold}
+use Rattle.snapshot_fold.specs.calls.Reading.{IsOutcome, LeadsOn, LinesComeTo, TakesLine}
 use Rattle.snapshot_fold.proofs.Judging.{Moves, stays, rises, one_line-says, line-closes}
 use Rattle.snapshot_fold.proofs.Known.{BothKnown-same, BothKnown-then, BothKnown-map}
 use Rattle.snapshot_fold.proofs.Told.{folded_from-reached, folded_from-cons, rest_from, told}
@@ -27,8 +27,8 @@ IsNotPast (Some t) done = done ≤ t
 
 -- These whole lines lead to a fold: whatever lines follow, all come to what those behind the fold do.
 pub record Reached (most : ℕ) (at : Option ℕ) (gone : List Line) (n : ℕ) (s : FoldState) : Type 0 where
-  pub folds : (lines : List Line) → folded most at (gone ++ lines) ≡ folded_from most at n s lines
-  pub folds_all : (lines : List Line) → folded most None (gone ++ lines) ≡ folded_from most None n s lines
+  pub folds : (lines : List Line) → fold_outcome most at (gone ++ lines) ≡ fold_outcome_from most at n s lines
+  pub folds_all : (lines : List Line) → fold_outcome most None (gone ++ lines) ≡ fold_outcome_from most None n s lines
   pub last : (lines : List Line) → last_done (gone ++ lines) ≡ last_done_from s.done lines
   pub not_past : IsNotPast at s.done
 
@@ -53,11 +53,11 @@ not_past-start : (at : Option ℕ) → IsNotPast at 0
 not_past-start None = tt
 not_past-start (Some t) = omega arith
 
-Reached-start : (most : ℕ) (at : Option ℕ) → Reached most at [] 0 start
+Reached-start : (most : ℕ) (at : Option ℕ) → Reached most at [] 0 empty_fold
 Reached-start most at =
     record { folds = λ lines. refl; folds_all = λ lines. refl; last = λ lines. refl; not_past = not_past-start at }
 
-pub Stands-start : (most : ℕ) (at : Option ℕ) (left : Option (List ℕ)) (reader : Reading) (s : FoldState) → s ≡ start →
+pub Stands-start : (most : ℕ) (at : Option ℕ) (left : Option (List ℕ)) (reader : Reading) (s : FoldState) → s ≡ empty_fold →
     reader.line ≡ record { bytes = []; whole = true } → reader.number ≡ 0 → reader.most ≡ most → reader.live ≡ true → reader.held ≡ [] →
     Stands most at left left reader s
 Stands-start most at left reader s begun line none most_is live empty =
@@ -89,23 +89,23 @@ not_past-next (Some t) s behind later so (rises done) =
 
 module _ (most : ℕ) (at : Option ℕ) (gone : List Line) (n : ℕ) (s behind : FoldState) (line : Line)
     (reached : Reached most at gone n s) (later : is_reached at s.done ≡ false)
-    (led : one_line most (suc n) s line ≡ Ok behind) (whole : line.whole ≡ true) where
+    (led : state_after_one_line most (suc n) s line ≡ Ok behind) (whole : line.whole ≡ true) where
   regrouped : (lines : List Line) → (gone ++ line ∷ []) ++ lines ≡ gone ++ line ∷ lines
   regrouped lines = append_assoc gone (line ∷ []) lines
 
   steps : (a : Option ℕ) → is_reached a s.done ≡ false → (lines : List Line) →
-      folded_from most a n s (line ∷ lines) ≡ folded_from most a (suc n) behind lines
+      fold_outcome_from most a n s (line ∷ lines) ≡ fold_outcome_from most a (suc n) behind lines
   steps a later lines =
       folded_from-cons most a n s line lines later
-      ∙ ap (λ r. led_on r (rest_from most a n line lines)) led
-      ∙ ap (λ w. folded_from most a (cond w (suc n) n) behind lines) whole
+      ∙ ap (λ r. outcome_after r (rest_from most a n line lines)) led
+      ∙ ap (λ w. fold_outcome_from most a (cond w (suc n) n) behind lines) whole
 
   Reached-next : Reached most at (gone ++ line ∷ []) (suc n) behind
   Reached-next =
       let closes = line-closes s behind line (one_line-says most (suc n) s line behind whole led) in
       record {
-        folds = λ lines. ap (folded most at) (regrouped lines) ∙ reached.folds (line ∷ lines) ∙ steps at later lines;
-        folds_all = λ lines. ap (folded most None) (regrouped lines) ∙ reached.folds_all (line ∷ lines) ∙ steps None refl lines;
+        folds = λ lines. ap (fold_outcome most at) (regrouped lines) ∙ reached.folds (line ∷ lines) ∙ steps at later lines;
+        folds_all = λ lines. ap (fold_outcome most None) (regrouped lines) ∙ reached.folds_all (line ∷ lines) ∙ steps None refl lines;
         last = λ lines.
             ap last_done (regrouped lines) ∙ reached.last (line ∷ lines) ∙ ap (λ t. last_done_from t lines) closes.0;
         not_past = not_past-next at s behind later reached.not_past closes.1;
@@ -162,26 +162,26 @@ Stands-next most at left0 left left' old new s behind later stands gives leads =
 
 -- what the lines to come lead to is what the whole text does
 all_lines : (at : Option ℕ) (bytes was : List ℕ) (reader : Reading) (s : FoldState) → AtLine at bytes was reader s →
-    folded reader.most at (lines_of bytes) ≡ folded_from reader.most at reader.number s (lines_of (reader.held ++ was))
+    fold_outcome reader.most at (lines_of bytes) ≡ fold_outcome_from reader.most at reader.number s (lines_of (reader.held ++ was))
 all_lines at bytes was reader s stood =
-    ap (folded reader.most at) stood.lines ∙ stood.reached.folds (lines_of (reader.held ++ was))
+    ap (fold_outcome reader.most at) stood.lines ∙ stood.reached.folds (lines_of (reader.held ++ was))
 
 folds-unless_starved : (most : ℕ) (at : Option ℕ) (left0 left : Option (List ℕ)) (result outcome : Result (List PieceValue) FoldStop) →
-    Gives result outcome → Folds most at left0 left outcome → Folds most at left0 left result
-folds-unless_starved most at left0 left result outcome (inl same) folds = subst (Folds most at left0 left) (sym same) folds
-folds-unless_starved most at left0 left result outcome (inr starved) folds = subst (Folds most at left0 left) (sym starved) tt
+    IsOutcome result outcome → FoldsRecords most at left0 left outcome → FoldsRecords most at left0 left result
+folds-unless_starved most at left0 left result outcome (inl same) folds = subst (FoldsRecords most at left0 left) (sym same) folds
+folds-unless_starved most at left0 left result outcome (inr starved) folds = subst (FoldsRecords most at left0 left) (sym starved) tt
 
 -- the timestamp that is named is done
 pub Stands-reached : (most : ℕ) (at : Option ℕ) (left0 left : Option (List ℕ)) (reader : Reading) (s : FoldState) (result : Result (List PieceValue) FoldStop) →
-    Stands most at left0 left reader s → is_reached at s.done ≡ true → Gives result (Ok s.settled) → Folds most at left0 left result
+    Stands most at left0 left reader s → is_reached at s.done ≡ true → IsOutcome result (Ok s.settled) → FoldsRecords most at left0 left result
 Stands-reached most at left0 left reader s result stands reached gives =
     folds-unless_starved most at left0 left result (Ok s.settled) gives
-    (subst (λ m. Folds m at left0 left (Ok s.settled)) stands.most_is
+    (subst (λ m. FoldsRecords m at left0 left (Ok s.settled)) stands.most_is
     (BothKnown-map _ _ left0 left stands.known (λ bytes is stood.
     all_lines at bytes is reader s stood ∙ folded_from-reached reader.most at reader.number s (lines_of (reader.held ++ is)) reached)))
 
 folds-end : (most : ℕ) (at : Option ℕ) (left0 left : Option (List ℕ)) (a : Option ℕ) (n : ℕ) (s : FoldState) →
-    BothKnown left0 left (λ bytes is. folded most at (lines_of bytes) ≡ at_end a n s) → Folds most at left0 left (at_end a n s)
+    BothKnown left0 left (λ bytes is. fold_outcome most at (lines_of bytes) ≡ outcome_at_end a n s) → FoldsRecords most at left0 left (outcome_at_end a n s)
 folds-end most at left0 left None n s known = known
 folds-end most at left0 left (Some t) n s known = known
 
@@ -189,20 +189,20 @@ module _ (most : ℕ) (at : Option ℕ) (left0 left left' : Option (List ℕ)) (
     (later : is_reached at s.done ≡ false) (stands : Stands most at left0 left old s) where
   -- the lines to come lead to an outcome
   outcome_is : (outcome : Option ℕ → Result (List PieceValue) FoldStop) →
-      BothKnown left left' (λ was is. ComesTo old s (old.held ++ was) outcome) →
-      BothKnown left0 left' (λ bytes is. folded old.most at (lines_of bytes) ≡ outcome at)
+      BothKnown left left' (λ was is. LinesComeTo old s (old.held ++ was) outcome) →
+      BothKnown left0 left' (λ bytes is. fold_outcome old.most at (lines_of bytes) ≡ outcome at)
   outcome_is outcome comes =
       BothKnown-then _ _ _ left0 left left' stands.known comes
       (λ bytes was is stood come. all_lines at bytes was old s stood ∙ come at later)
 
   -- no whole line follows
   pub Stands-ends : (result : Result (List PieceValue) FoldStop) → TakesLine old new s behind left left' (Ok false) →
-      Gives result (at_end at old.number behind) → Folds most at left0 left' result
+      IsOutcome result (outcome_at_end at old.number behind) → FoldsRecords most at left0 left' result
   Stands-ends result ends gives =
-      folds-unless_starved most at left0 left' result (at_end at old.number s)
-      (subst (λ s. Gives result (at_end at old.number s)) ends.0 gives)
-      (subst (λ m. Folds m at left0 left' (at_end at old.number s)) stands.most_is
-      (folds-end old.most at left0 left' at old.number s (outcome_is (λ a. at_end a old.number s) ends.1)))
+      folds-unless_starved most at left0 left' result (outcome_at_end at old.number s)
+      (subst (λ s. IsOutcome result (outcome_at_end at old.number s)) ends.0 gives)
+      (subst (λ m. FoldsRecords m at left0 left' (outcome_at_end at old.number s)) stands.most_is
+      (folds-end old.most at left0 left' at old.number s (outcome_is (λ a. outcome_at_end a old.number s) ends.1)))
 
   to_come : (a : Option ℕ) → is_reached a s.done ≡ false → IsNotPast a s.done → IsToCome a s.done
   to_come None later so = tt
@@ -220,17 +220,17 @@ module _ (most : ℕ) (at : Option ℕ) (left0 left left' : Option (List ℕ)) (
         split =
             stood.split ∙ ap (λ xs. stood.given ++ xs) stops.taken ∙ sym (append_assoc stood.given new.held is);
         pieces = s.settled;
-        none_refused = ap (folded old.most None) (lines ∙ all) ∙ stood.reached.folds_all [];
+        none_refused = ap (fold_outcome old.most None) (lines ∙ all) ∙ stood.reached.folds_all [];
         to_come =
             subst (IsToCome at) (sym (ap last_done (lines ∙ all) ∙ stood.reached.last []))
             (to_come at later stood.reached.not_past);
       }
 
-  stopped : (why : FoldStop) → BothKnown left left' (λ was is. ComesTo old s (old.held ++ was) (λ a. Err why)) →
-      BothKnown left0 left' (λ bytes is. folded old.most at (lines_of bytes) ≡ Err why)
+  stopped : (why : FoldStop) → BothKnown left left' (λ was is. LinesComeTo old s (old.held ++ was) (λ a. Err why)) →
+      BothKnown left0 left' (λ bytes is. fold_outcome old.most at (lines_of bytes) ≡ Err why)
   stopped why comes = outcome_is (λ a. Err why) comes
 
-  stops_by : (why : FoldStop) → TakesLine old new s behind left left' (Err why) → Folds old.most at left0 left' (Err why)
+  stops_by : (why : FoldStop) → TakesLine old new s behind left left' (Err why) → FoldsRecords old.most at left0 left' (Err why)
   stops_by stop.NoMemory takes = tt
   stops_by stop.ReadFault takes =
       BothKnown-then _ _ _ left0 left left' stands.known takes unended
@@ -244,12 +244,12 @@ module _ (most : ℕ) (at : Option ℕ) (left0 left left' : Option (List ℕ)) (
   stops_by (stop.TooMany n) takes = stopped (stop.TooMany n) takes
 
   -- the next line stops the fold
-  pub Stands-stops : (why : FoldStop) → TakesLine old new s behind left left' (Err why) → Folds most at left0 left' (Err why)
-  Stands-stops why takes = subst (λ m. Folds m at left0 left' (Err why)) stands.most_is (stops_by why takes)
+  pub Stands-stops : (why : FoldStop) → TakesLine old new s behind left left' (Err why) → FoldsRecords most at left0 left' (Err why)
+  Stands-stops why takes = subst (λ m. FoldsRecords m at left0 left' (Err why)) stands.most_is (stops_by why takes)
 
 -- the pieces of a fold are those that the text tells of
 pub Folds-told : (most : ℕ) (at : Option ℕ) (left0 left : Option (List ℕ)) (result : Result (List PieceValue) FoldStop) →
-    Folds most at left0 left result → IfOk result (AreTold at left0 left)
+    FoldsRecords most at left0 left result → IfOk result (AreTold at left0 left)
 Folds-told most at left0 left (Ok pieces) folds =
     BothKnown-map _ _ left0 left folds (λ bytes is so. told most at bytes pieces so)
 Folds-told most at left0 left (Err why) folds = tt

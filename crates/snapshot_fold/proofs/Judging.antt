@@ -15,10 +15,10 @@ use Rattle.snapshot_fold.specs.declared.fault.FoldFault.TheVariants.{MixedModes,
 use Rattle.snapshot_fold.specs.declared.folding.FoldStop.{FoldStop}
 use Rattle.snapshot_fold.specs.declared.folding.FoldStop.TheVariants as stop
 use Rattle.snapshot_fold.specs.meaning.FoldState.{FoldState}
-use Rattle.snapshot_fold.specs.meaning.FoldText.{behind_line, accepted}
-use Rattle.snapshot_fold.specs.meaning.Folding.{taken_at, said_at, one_line, done_behind}
-use Rattle.snapshot_fold.specs.meaning.Pieces.{is_among}
-use Rattle.snapshot_fold.specs.meaning.Taking.{taken, is_of_other_mode, is_open, goes_in_order, comes_in_order}
+use Rattle.snapshot_fold.specs.meaning.FoldText.{state_after_line, accepted_state}
+use Rattle.snapshot_fold.specs.meaning.Folding.{state_or_stop, state_after_content, state_after_one_line, done_after_record}
+use Rattle.snapshot_fold.specs.meaning.Pieces.{has_piece}
+use Rattle.snapshot_fold.specs.meaning.Taking.{state_after_record, is_of_other_mode, is_open, goes_in_order, comes_in_order}
 use Rattle.snapshot_fold.specs.meaning.Taking.{after_rem, after_new, after_done}
 
 module _ {E : Type 0} (e : E) (behind : FoldState) (r : Result FoldState E) where
@@ -38,30 +38,30 @@ pub data Moves (s behind : FoldState) : Type 0 where
 
 -- what a record that is accepted does to the timestamps
 pub record Closes (s behind : FoldState) (said : RecordLine) : Type 0 where
-  pub done_is : done_behind s.done (Some said) ≡ behind.done
+  pub done_is : done_after_record s.done (Some said) ≡ behind.done
   pub moves : Moves s behind
 
-closes-same : (s behind : FoldState) (said : RecordLine) → done_behind s.done (Some said) ≡ s.done →
+closes-same : (s behind : FoldState) (said : RecordLine) → done_after_record s.done (Some said) ≡ s.done →
     behind.done ≡ s.done → behind.settled ≡ s.settled → Closes s behind said
 closes-same s behind said same done settled = record {
   done_is = same ∙ sym done;
   moves = stays done settled;
 }
 
-pub taken-closes : (s behind : FoldState) (said : RecordLine) → taken s said ≡ Ok behind → Closes s behind said
+pub taken-closes : (s behind : FoldState) (said : RecordLine) → state_after_record s said ≡ Ok behind → Closes s behind said
 taken-closes s behind Nothing so =
     let e : s ≡ behind = cc in
     closes-same s behind Nothing refl (ap (λ (x : FoldState). x.done) (sym e)) (ap (λ (x : FoldState). x.settled) (sym e))
 taken-closes s behind (Rem t p) so =
     let of_mode = passes MixedModes behind _ (is_of_other_mode s p) so in
     let in_order = passes OutOfOrder behind _ (not (goes_in_order s t p)) of_mode in
-    let there = meets RemovesAbsent behind (Ok (after_rem s p)) (is_among s.held p) in_order in
+    let there = meets RemovesAbsent behind (Ok (after_rem s p)) (has_piece s.held p) in_order in
     let e : after_rem s p ≡ behind = cc in
     closes-same s behind (Rem t p) refl (ap (λ (x : FoldState). x.done) (sym e)) (ap (λ (x : FoldState). x.settled) (sym e))
 taken-closes s behind (Add t p) so =
     let of_mode = passes MixedModes behind _ (is_of_other_mode s p) so in
     let in_order = passes OutOfOrder behind _ (not (comes_in_order s t p)) of_mode in
-    let absent = passes AddsPresent behind (Ok (after_new s p)) (is_among s.held p) in_order in
+    let absent = passes AddsPresent behind (Ok (after_new s p)) (has_piece s.held p) in_order in
     let e : after_new s p ≡ behind = cc in
     closes-same s behind (Add t p) refl (ap (λ (x : FoldState). x.done) (sym e)) (ap (λ (x : FoldState). x.settled) (sym e))
 taken-closes s behind (Done t) so =
@@ -79,64 +79,64 @@ taken-closes s behind (Done t) so =
 pub record SaysRecord (s behind : FoldState) (line : Line) : Type 0 where
   pub said : RecordLine
   pub said_is : record_of (without_cr line.bytes) ≡ Some said
-  pub taken_is : taken s said ≡ Ok behind
+  pub taken_is : state_after_record s said ≡ Ok behind
 
-taken_at-ok : (n : ℕ) (behind : FoldState) (r : Result FoldState FoldFault) → taken_at n r ≡ Ok behind → r ≡ Ok behind
+taken_at-ok : (n : ℕ) (behind : FoldState) (r : Result FoldState FoldFault) → state_or_stop n r ≡ Ok behind → r ≡ Ok behind
 taken_at-ok n behind (Ok other) so = let e : other ≡ behind = cc in ap Ok e
 taken_at-ok n behind (Err fault) so = cc
 
-said_at-ok : (n : ℕ) (s behind : FoldState) (o : Option RecordLine) → said_at n s o ≡ Ok behind →
-    (said : RecordLine) × (o ≡ Some said) × (taken s said ≡ Ok behind)
+said_at-ok : (n : ℕ) (s behind : FoldState) (o : Option RecordLine) → state_after_content n s o ≡ Ok behind →
+    (said : RecordLine) × (o ≡ Some said) × (state_after_record s said ≡ Ok behind)
 said_at-ok n s behind None so = cc
-said_at-ok n s behind (Some said) so = (said, refl, taken_at-ok n behind (taken s said) so)
+said_at-ok n s behind (Some said) so = (said, refl, taken_at-ok n behind (state_after_record s said) so)
 
 module _ (most n : ℕ) (s : FoldState) (line : Line) where
   -- what the line says, where it is whole
   abbrev Within : Bool → Result FoldState FoldStop
-  Within whole = cond whole (said_at n s (record_of (without_cr line.bytes))) (Ok s)
+  Within whole = cond whole (state_after_content n s (record_of (without_cr line.bytes))) (Ok s)
 
-  within_limits : (behind : FoldState) → one_line most n s line ≡ Ok behind → Within line.whole ≡ Ok behind
+  within_limits : (behind : FoldState) → state_after_one_line most n s line ≡ Ok behind → Within line.whole ≡ Ok behind
   within_limits behind so =
       passes (stop.TooLong n) behind _ (nat_lt most_line_bytes (length line.bytes))
       (passes (stop.TooMany n) behind _ (nat_lt most n) so)
 
-  pub one_line-says : (behind : FoldState) → line.whole ≡ true → one_line most n s line ≡ Ok behind → SaysRecord s behind line
+  pub one_line-says : (behind : FoldState) → line.whole ≡ true → state_after_one_line most n s line ≡ Ok behind → SaysRecord s behind line
   one_line-says behind whole so =
       let found = said_at-ok n s behind (record_of (without_cr line.bytes)) (ap Within (sym whole) ∙ within_limits behind so) in
       record { said = found.0; said_is = found.1; taken_is = found.2 }
 
-  pub one_line-torn : (behind : FoldState) → line.whole ≡ false → one_line most n s line ≡ Ok behind → s ≡ behind
+  pub one_line-torn : (behind : FoldState) → line.whole ≡ false → state_after_one_line most n s line ≡ Ok behind → s ≡ behind
   one_line-torn behind torn so =
       let same : ◌≡◌ {A = Result FoldState FoldStop} (Ok s) (Ok behind) = ap Within (sym torn) ∙ within_limits behind so in cc
 
   -- a line that isn't one too many is judged by its length
-  not_many : n ≤ most → one_line most n s line ≡ cond (nat_lt most_line_bytes (length line.bytes)) (Err (stop.TooLong n)) (Within line.whole)
+  not_many : n ≤ most → state_after_one_line most n s line ≡ cond (nat_lt most_line_bytes (length line.bytes)) (Err (stop.TooLong n)) (Within line.whole)
   not_many few =
       let is : nat_lt most n ≡ false = grind (arith, nat_tests) in
       ap (λ b. cond b (Err (stop.TooMany n)) (cond (nat_lt most_line_bytes (length line.bytes)) (Err (stop.TooLong n)) (Within line.whole))) is
 
-  pub one_line-short : n ≤ most → length line.bytes ≤ most_line_bytes → one_line most n s line ≡ Within line.whole
+  pub one_line-short : n ≤ most → length line.bytes ≤ most_line_bytes → state_after_one_line most n s line ≡ Within line.whole
   one_line-short few short =
       let is : nat_lt most_line_bytes (length line.bytes) ≡ false = grind (arith, nat_tests) in
       not_many few ∙ ap (λ b. cond b (Err (stop.TooLong n)) (Within line.whole)) is
 
-  pub one_line-long : n ≤ most → most_line_bytes < length line.bytes → one_line most n s line ≡ Err (stop.TooLong n)
+  pub one_line-long : n ≤ most → most_line_bytes < length line.bytes → state_after_one_line most n s line ≡ Err (stop.TooLong n)
   one_line-long few long =
       let is : nat_lt most_line_bytes (length line.bytes) ≡ true = grind (arith, nat_tests) in
       not_many few ∙ ap (λ b. cond b (Err (stop.TooLong n)) (Within line.whole)) is
 
-  pub one_line-many : most < n → one_line most n s line ≡ Err (stop.TooMany n)
+  pub one_line-many : most < n → state_after_one_line most n s line ≡ Err (stop.TooMany n)
   one_line-many many =
       let is : nat_lt most n ≡ true = grind (arith, nat_tests) in
       ap (λ b. cond b (Err (stop.TooMany n)) (cond (nat_lt most_line_bytes (length line.bytes)) (Err (stop.TooLong n)) (Within line.whole))) is
 
 module _ (s behind : FoldState) (line : Line) (says : SaysRecord s behind line) where
   -- the text goes on behind the line
-  pub behind_line-is : behind_line s line ≡ Some behind
+  pub behind_line-is : state_after_line s line ≡ Some behind
   behind_line-is =
-      ap (λ o. option_and_then (λ said. accepted (taken s said)) o) says.said_is ∙ ap accepted says.taken_is
+      ap (λ o. option_and_then (λ said. accepted_state (state_after_record s said)) o) says.said_is ∙ ap accepted_state says.taken_is
 
-  pub line-closes : (done_behind s.done (record_of (without_cr line.bytes)) ≡ behind.done) × Moves s behind
+  pub line-closes : (done_after_record s.done (record_of (without_cr line.bytes)) ≡ behind.done) × Moves s behind
   line-closes =
       let closes = taken-closes s behind says.said says.taken_is in
-      (ap (done_behind s.done) says.said_is ∙ closes.done_is, closes.moves)
+      (ap (done_after_record s.done) says.said_is ∙ closes.done_is, closes.moves)

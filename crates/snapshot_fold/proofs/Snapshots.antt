@@ -13,7 +13,7 @@ use Rattle.graph_types.specs.meaning.Orders.{pair_cmp_total}
 use Rattle.graph_types.specs.declared.update.Update.{Update}
 use Rattle.graph_types.specs.declared.update.Update.TheVariants.{AddVertex, RemoveVertex, LabelVertex, AddEdge, RemoveEdge, LabelEdge}
 use Rattle.graph_types.proofs.Graph.{pair_cmp-IsAntisymmetric, EdgesHaveEnds-empty_graph, EdgesHaveEnds-with_vertex, EdgesHaveEnds-with_edge, EdgesHaveEnds-without_edge, EdgesHaveEnds-without_vertex, HasEnds-between}
-use Rattle.mining_model.specs.meaning.Step.{Refusal, add_edge, after, after_all, at_edge, edge_exists, is_loop, label_edge, left_by, no_edge, no_vertex, remove_edge, snapshot, vertex_exists}
+use Rattle.mining_model.specs.meaning.Step.{Refusal, add_edge, graph_after, graph_after_all, at_edge, edge_exists, is_loop, label_edge, graph_left_by, no_edge, no_vertex, remove_edge, snapshot, vertex_exists}
 use Rattle.snapshot_fold.specs.meaning.Records.{AddsShortId}
 use Rattle.snapshot_fold.proofs.Ascending.{is_tie}
 
@@ -83,29 +83,29 @@ module _ (g : Graph) (short : IsShort g) where
       }
 
   -- an update of an edge, whatever comes of it where both ends are there
-  at_ends : (from to : ℕ) (update : ℕ × ℕ → Result Graph Refusal) → ((from ≢ to) → IsTrue (has_vertex g from) → IsTrue (has_vertex g to) → IsShort (left_by g (update (edge_between from to))))
-      → IsShort (left_by g (at_edge g from to update))
+  at_ends : (from to : ℕ) (update : ℕ × ℕ → Result Graph Refusal) → ((from ≢ to) → IsTrue (has_vertex g from) → IsTrue (has_vertex g to) → IsShort (graph_left_by g (update (edge_between from to))))
+      → IsShort (graph_left_by g (at_edge g from to update))
   at_ends from to update gives =
-      elim (eqb from to) as (λ b. eqb from to ≡ b → IsShort (left_by g (if b then Err is_loop else if not (has_vertex g from) then Err (no_vertex from) else if not (has_vertex g to) then Err (no_vertex to) else update (edge_between from to)))) [
+      elim (eqb from to) as (λ b. eqb from to ≡ b → IsShort (graph_left_by g (if b then Err is_loop else if not (has_vertex g from) then Err (no_vertex from) else if not (has_vertex g to) then Err (no_vertex to) else update (edge_between from to)))) [
         | true ↦ λ _. short
         | false ↦ λ apart.
-            elim (has_vertex g from) as (λ b. has_vertex g from ≡ b → IsShort (left_by g (if not b then Err (no_vertex from) else if not (has_vertex g to) then Err (no_vertex to) else update (edge_between from to)))) [
+            elim (has_vertex g from) as (λ b. has_vertex g from ≡ b → IsShort (graph_left_by g (if not b then Err (no_vertex from) else if not (has_vertex g to) then Err (no_vertex to) else update (edge_between from to)))) [
               | false ↦ λ _. short
               | true ↦ λ has_from.
-                  elim (has_vertex g to) as (λ b. has_vertex g to ≡ b → IsShort (left_by g (if not b then Err (no_vertex to) else update (edge_between from to)))) [
+                  elim (has_vertex g to) as (λ b. has_vertex g to ≡ b → IsShort (graph_left_by g (if not b then Err (no_vertex to) else update (edge_between from to)))) [
                     | false ↦ λ _. short
                     | true ↦ λ has_to. gives (eqb-false from to apart) has_from has_to
                   ] refl
             ] refl
       ] refl
 
-  IsShort-after : (u : Update) → AddsShortId u → IsShort (after g u)
+  IsShort-after : (u : Update) → AddsShortId u → IsShort (graph_after g u)
   IsShort-after (AddVertex id label) fits =
-      elim (has_vertex g id) as (λ b. IsShort (left_by g (if b then Err vertex_exists else Ok (with_vertex g id label)))) [ true ↦ short | false ↦ IsShort-with_vertex id label fits ]
+      elim (has_vertex g id) as (λ b. IsShort (graph_left_by g (if b then Err vertex_exists else Ok (with_vertex g id label)))) [ true ↦ short | false ↦ IsShort-with_vertex id label fits ]
   IsShort-after (RemoveVertex id) _ =
-      elim (has_vertex g id) as (λ b. IsShort (left_by g (if b then Ok (without_vertex g id) else Err (no_vertex id)))) [ true ↦ IsShort-without_vertex id | false ↦ short ]
+      elim (has_vertex g id) as (λ b. IsShort (graph_left_by g (if b then Ok (without_vertex g id) else Err (no_vertex id)))) [ true ↦ IsShort-without_vertex id | false ↦ short ]
   IsShort-after (LabelVertex id label) _ =
-      elim (has_vertex g id) as (λ b. has_vertex g id ≡ b → IsShort (left_by g (if b then Ok (with_vertex g id label) else Err (no_vertex id)))) [
+      elim (has_vertex g id) as (λ b. has_vertex g id ≡ b → IsShort (graph_left_by g (if b then Ok (with_vertex g id label) else Err (no_vertex id)))) [
         | true ↦ λ has. IsShort-with_vertex id label (short.vertices id has)
         | false ↦ λ _. short
       ] refl
@@ -113,22 +113,22 @@ module _ (g : Graph) (short : IsShort g) where
       at_ends from to (add_edge g label) (λ apart has_from has_to.
       let e = edge_between from to in
       let lower : e.0 < e.1 = grind arith in
-      elim (has_edge g e) as (λ b. IsShort (left_by g (if b then Err edge_exists else Ok (with_edge g e label)))) [ true ↦ short | false ↦ IsShort-with_edge e label (HasEnds-between g from to has_from has_to) lower ])
+      elim (has_edge g e) as (λ b. IsShort (graph_left_by g (if b then Err edge_exists else Ok (with_edge g e label)))) [ true ↦ short | false ↦ IsShort-with_edge e label (HasEnds-between g from to has_from has_to) lower ])
   IsShort-after (RemoveEdge from to) _ =
       at_ends from to (remove_edge g) (λ _ _ _.
       let e = edge_between from to in
-      elim (has_edge g e) as (λ b. IsShort (left_by g (if b then Ok (without_edge g e) else Err no_edge))) [ true ↦ IsShort-without_edge e | false ↦ short ])
+      elim (has_edge g e) as (λ b. IsShort (graph_left_by g (if b then Ok (without_edge g e) else Err no_edge))) [ true ↦ IsShort-without_edge e | false ↦ short ])
   IsShort-after (LabelEdge from to label) _ =
       at_ends from to (label_edge g label) (λ _ _ _.
       let e = edge_between from to in
-      elim (has_edge g e) as (λ b. has_edge g e ≡ b → IsShort (left_by g (if b then Ok (with_edge g e label) else Err no_edge))) [
+      elim (has_edge g e) as (λ b. has_edge g e ≡ b → IsShort (graph_left_by g (if b then Ok (with_edge g e label) else Err no_edge))) [
         | true ↦ λ has. IsShort-with_edge e label (short.ends e has) (short.ordered e has)
         | false ↦ λ _. short
       ] refl)
 
-IsShort-after_all : (g : Graph) (us : List Update) → IsShort g → AllByRecursion AddsShortId us → IsShort (after_all g us)
+IsShort-after_all : (g : Graph) (us : List Update) → IsShort g → AllByRecursion AddsShortId us → IsShort (graph_after_all g us)
 IsShort-after_all g [] short fits = short
-IsShort-after_all g (u ∷ us) short fits = IsShort-after_all (after g u) us (IsShort-after g short u fits.0) fits.1
+IsShort-after_all g (u ∷ us) short fits = IsShort-after_all (graph_after g u) us (IsShort-after g short u fits.0) fits.1
 
 pub IsShort-snapshot : (us : List Update) (t : ℕ) → All AddsShortId us → IsShort (snapshot us t)
 IsShort-snapshot us t fits =

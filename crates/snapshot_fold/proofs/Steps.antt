@@ -14,9 +14,9 @@ use Rattle.graph_types.proofs.Members.{piece_cmp-IsAntisymmetric}
 use Rattle.mining_model.proofs.Ascending.{IsStrictlySortedBy-append, all-weaker}
 use Rattle.record_text.proofs.Sorted.{sorted-one}
 use Rattle.snapshot_fold.specs.meaning.FoldState.{FoldState}
-use Rattle.snapshot_fold.specs.meaning.Pieces.{is_above, is_among, is_same, last_of, with_piece, without_piece}
+use Rattle.snapshot_fold.specs.meaning.Pieces.{is_above, has_piece, is_same_piece, last_of, with_piece, without_piece}
 use Rattle.snapshot_fold.specs.meaning.Taking.{after_done, after_new, after_rem}
-use Rattle.snapshot_fold.specs.storage.Undone.{IsOpen, undone}
+use Rattle.snapshot_fold.specs.storage.Undone.{IsOpen, pieces_before_open}
 use Rattle.snapshot_fold.proofs.Ascending.{among-insert_key, among-remove_key, same_item, same_list, sorted-insert_key, sorted-remove_key}
 use Rattle.snapshot_fold.proofs.Lasts.{all_below_next, last_of-push, no_last}
 use Rattle.snapshot_fold.proofs.Undone.{Ascends, among-undone, or_false, undone-ascends}
@@ -26,11 +26,11 @@ ascends-push pieces p s above =
     IsStrictlySortedBy-append piece_cmp pieces (p ∷ []) s (sorted-one piece_cmp p)
     (all-weaker (λ q. piece_cmp q p ≡ Less) (λ q. AllByRecursion (λ r. piece_cmp q r ≡ Less) (p ∷ [])) (λ q less. (less, tt)) pieces (all_below_next pieces p s above))
 
-among-push : (pieces : List PieceValue) (p q : PieceValue) → is_among (pieces ++ p ∷ []) q ≡ (is_among pieces q || is_same q p)
-among-push pieces p q = list_any-append (is_same q) pieces (p ∷ []) ∙ ap (λ b. is_among pieces q || b) (or_false (is_same q p))
+among-push : (pieces : List PieceValue) (p q : PieceValue) → has_piece (pieces ++ p ∷ []) q ≡ (has_piece pieces q || is_same_piece q p)
+among-push pieces p q = list_any-append (is_same_piece q) pieces (p ∷ []) ∙ ap (λ b. has_piece pieces q || b) (or_false (is_same_piece q p))
 
-tied : (p q : PieceValue) (pieces : List PieceValue) (b : Bool) → is_among pieces p ≡ b → is_same q p ≡ true → is_among pieces q ≡ b
-tied p q pieces b is t = ap (is_among pieces) (same_item piece_cmp_total piece_cmp-IsAntisymmetric q p t) ∙ is
+tied : (p q : PieceValue) (pieces : List PieceValue) (b : Bool) → has_piece pieces p ≡ b → is_same_piece q p ≡ true → has_piece pieces q ≡ b
+tied p q pieces b is t = ap (has_piece pieces) (same_item piece_cmp_total piece_cmp-IsAntisymmetric q p t) ∙ is
 
 -- what holds of each success holds where no error came
 pub on_ok : {T E P : Type 0} (r : Result T E) → is_err r ≡ false → OnOk r P → P
@@ -49,28 +49,28 @@ was_held : (e h : Bool) → (not e && h) ≡ true → (e ≡ false) × (h ≡ tr
 was_held true h is = absurd (true≢false (sym is))
 was_held false h is = (refl, is)
 
-module _ (held went : List PieceValue) (p : PieceValue) (kept : IsOpen held went []) (above : is_above (last_of went) p ≡ true) (there : is_among held p ≡ true) where
-  left_among : (q : PieceValue) → is_among (without_piece held p) q ≡ (not (is_same q p) && is_among held q)
+module _ (held went : List PieceValue) (p : PieceValue) (kept : IsOpen held went []) (above : is_above (last_of went) p ≡ true) (there : has_piece held p ≡ true) where
+  left_among : (q : PieceValue) → has_piece (without_piece held p) q ≡ (not (is_same_piece q p) && has_piece held q)
   left_among = among-remove_key piece_cmp_total piece_cmp-IsAntisymmetric p held kept.held_ascends
 
   IsOpen-went : IsOpen (without_piece held p) (went ++ p ∷ []) []
   IsOpen-went = record {
-    held_ascends = sorted-remove_key piece_cmp_total piece_cmp-IsAntisymmetric (is_same p) held kept.held_ascends;
+    held_ascends = sorted-remove_key piece_cmp_total piece_cmp-IsAntisymmetric (is_same_piece p) held kept.held_ascends;
     went_ascends = ascends-push went p kept.went_ascends above;
     came_ascends = kept.came_ascends;
     came_held = λ q found. absurd (true≢false (sym found));
     went_away = λ q away stays.
-        let left = was_held (is_same q p) (is_among held q) (sym (left_among q) ∙ stays) in
-        let before : is_among went q ≡ true = sym (or_false (is_among went q)) ∙ ap (λ b. is_among went q || b) (sym left.0) ∙ sym (among-push went p q) ∙ away in
+        let left = was_held (is_same_piece q p) (has_piece held q) (sym (left_among q) ∙ stays) in
+        let before : has_piece went q ≡ true = sym (or_false (has_piece went q)) ∙ ap (λ b. has_piece went q || b) (sym left.0) ∙ sym (among-push went p q) ∙ away in
         kept.went_away q before left.1;
   }
 
-  undone-went : undone (without_piece held p) (went ++ p ∷ []) [] ≡ undone held went []
+  undone-went : pieces_before_open (without_piece held p) (went ++ p ∷ []) [] ≡ pieces_before_open held went []
   undone-went =
       same_list piece_cmp_total piece_cmp-IsAntisymmetric _ _ (undone-ascends _ _ _ IsOpen-went) (undone-ascends _ _ _ kept)
       (λ q. among-undone q (without_piece held p) (went ++ p ∷ []) [] IsOpen-went
       ∙ (λ i. among-push went p q i || (left_among q i && true))
-      ∙ went_step (is_among went q) (is_among held q) (is_same q p) (tied p q held true there)
+      ∙ went_step (has_piece went q) (has_piece held q) (is_same_piece q p) (tied p q held true there)
       ∙ sym (among-undone q held went [] kept))
 
 -- ---- a piece came
@@ -83,8 +83,8 @@ came_step false false true true so = refl
 came_step false false false true so = refl
 came_step false true c true so = absurd (true≢false (so refl))
 
-module _ (held went came : List PieceValue) (p : PieceValue) (kept : IsOpen held went came) (above : is_above (last_of came) p ≡ true) (absent : is_among held p ≡ false) where
-  more_among : (q : PieceValue) → is_among (with_piece held p) q ≡ (is_same q p || is_among held q)
+module _ (held went came : List PieceValue) (p : PieceValue) (kept : IsOpen held went came) (above : is_above (last_of came) p ≡ true) (absent : has_piece held p ≡ false) where
+  more_among : (q : PieceValue) → has_piece (with_piece held p) q ≡ (is_same_piece q p || has_piece held q)
   more_among = among-insert_key piece_cmp_total piece_cmp-IsAntisymmetric p held
 
   IsOpen-came : IsOpen (with_piece held p) went (came ++ p ∷ [])
@@ -93,19 +93,19 @@ module _ (held went came : List PieceValue) (p : PieceValue) (kept : IsOpen held
     went_ascends = kept.went_ascends;
     came_ascends = ascends-push came p kept.came_ascends above;
     came_held = λ q there.
-        more_among q ∙ ⊎_elim (λ before. or_right (is_same q p) _ (kept.came_held q before)) (λ now. or_left (is_same q p) _ now)
-        (or_cases (is_among came q) (is_same q p) (sym (among-push came p q) ∙ there));
+        more_among q ∙ ⊎_elim (λ before. or_right (is_same_piece q p) _ (kept.came_held q before)) (λ now. or_left (is_same_piece q p) _ now)
+        (or_cases (has_piece came q) (is_same_piece q p) (sym (among-push came p q) ∙ there));
     went_away = λ q away there.
-        among-push came p q ∙ ⊎_elim (λ now. or_right (is_among came q) _ now) (λ before. or_left (is_among came q) _ (kept.went_away q away before))
-        (or_cases (is_same q p) (is_among held q) (sym (more_among q) ∙ there));
+        among-push came p q ∙ ⊎_elim (λ now. or_right (has_piece came q) _ now) (λ before. or_left (has_piece came q) _ (kept.went_away q away before))
+        (or_cases (is_same_piece q p) (has_piece held q) (sym (more_among q) ∙ there));
   }
 
-  undone-came : undone (with_piece held p) went (came ++ p ∷ []) ≡ undone held went came
+  undone-came : pieces_before_open (with_piece held p) went (came ++ p ∷ []) ≡ pieces_before_open held went came
   undone-came =
       same_list piece_cmp_total piece_cmp-IsAntisymmetric _ _ (undone-ascends _ _ _ IsOpen-came) (undone-ascends _ _ _ kept)
       (λ q. among-undone q (with_piece held p) went (came ++ p ∷ []) IsOpen-came
-      ∙ (λ i. is_among went q || (more_among q i && not (among-push came p q i)))
-      ∙ came_step (is_among went q) (is_among held q) (is_among came q) (is_same q p) (tied p q held false absent)
+      ∙ (λ i. has_piece went q || (more_among q i && not (among-push came p q i)))
+      ∙ came_step (has_piece went q) (has_piece held q) (has_piece came q) (is_same_piece q p) (tied p q held false absent)
       ∙ sym (among-undone q held went came kept))
 
 -- ---- a timestamp is done
@@ -120,7 +120,7 @@ IsOpen-done held went came kept = record {
   went_away = λ q found _. found;
 }
 
-pub undone-none : (held : List PieceValue) → undone held [] [] ≡ held
+pub undone-none : (held : List PieceValue) → pieces_before_open held [] [] ≡ held
 undone-none [] = refl
 undone-none (p ∷ held) = ap (λ rest. p ∷ rest) (undone-none held)
 
@@ -131,7 +131,7 @@ abbrev pub seen : Option Mode → ℕ → List PieceValue → List PieceValue �
 seen mode done held went came = record {
   mode = mode;
   done = done;
-  settled = undone held went came;
+  settled = pieces_before_open held went came;
   held = held;
   last_rem = last_of went;
   last_new = last_of came;
@@ -139,15 +139,15 @@ seen mode done held went came = record {
 
 module _ (s : FoldState) (mode : Option Mode) (done : ℕ) (held went came : List PieceValue) (view : seen mode done held went came ≡ s) (kept : IsOpen held went came) where
   -- a piece went that is there
-  pub after_rem_is : (p : PieceValue) (kind : Mode) (left more : List PieceValue) → s.last_new ≡ None → is_above s.last_rem p ≡ true → is_among held p ≡ true → left ≡ without_piece held p → more ≡ went ++ p ∷ [] → kind ≡ p.mode →
+  pub after_rem_is : (p : PieceValue) (kind : Mode) (left more : List PieceValue) → s.last_new ≡ None → is_above s.last_rem p ≡ true → has_piece held p ≡ true → left ≡ without_piece held p → more ≡ went ++ p ∷ [] → kind ≡ p.mode →
       IsOpen left more came × (seen (Some kind) done left more came ≡ after_rem s p)
   after_rem_is p kind left more first above there left_is more_is kind_is =
       let none : came ≡ [] = no_last came (ap (λ v. v.last_new) view ∙ first) in
       let kept' : IsOpen held went [] = subst (IsOpen held went) none kept in
       let above' : is_above (last_of went) p ≡ true = ap (λ v. is_above v.last_rem p) view ∙ above in
       let still = IsOpen-went held went p kept' above' there in
-      let settled_is : undone left more came ≡ s.settled =
-      (λ i. undone (left_is i) (more_is i) (none i)) ∙ undone-went held went p kept' above' there ∙ ap (undone held went) (sym none) ∙ ap (λ v. v.settled) view in (
+      let settled_is : pieces_before_open left more came ≡ s.settled =
+      (λ i. pieces_before_open (left_is i) (more_is i) (none i)) ∙ undone-went held went p kept' above' there ∙ ap (pieces_before_open held went) (sym none) ∙ ap (λ v. v.settled) view in (
         subst (λ ls. IsOpen ls more came) (sym left_is) (subst (λ ms. IsOpen (without_piece held p) ms came) (sym more_is) (subst (IsOpen (without_piece held p) (went ++ p ∷ [])) (sym none) still)),
         λ i. record {
           mode = Some (kind_is i);
@@ -160,13 +160,13 @@ module _ (s : FoldState) (mode : Option Mode) (done : ℕ) (held went came : Lis
       )
 
   -- a piece came that isn't there
-  pub after_new_is : (p : PieceValue) (kind : Mode) (now more : List PieceValue) → is_above s.last_new p ≡ true → is_among held p ≡ false → now ≡ with_piece held p → more ≡ came ++ p ∷ [] → kind ≡ p.mode →
+  pub after_new_is : (p : PieceValue) (kind : Mode) (now more : List PieceValue) → is_above s.last_new p ≡ true → has_piece held p ≡ false → now ≡ with_piece held p → more ≡ came ++ p ∷ [] → kind ≡ p.mode →
       IsOpen now went more × (seen (Some kind) done now went more ≡ after_new s p)
   after_new_is p kind now more above absent now_is more_is kind_is =
       let above' : is_above (last_of came) p ≡ true = ap (λ v. is_above v.last_new p) view ∙ above in
       let still = IsOpen-came held went came p kept above' absent in
-      let settled_is : undone now went more ≡ s.settled =
-      (λ i. undone (now_is i) went (more_is i)) ∙ undone-came held went came p kept above' absent ∙ ap (λ v. v.settled) view in (
+      let settled_is : pieces_before_open now went more ≡ s.settled =
+      (λ i. pieces_before_open (now_is i) went (more_is i)) ∙ undone-came held went came p kept above' absent ∙ ap (λ v. v.settled) view in (
         subst (λ ns. IsOpen ns went more) (sym now_is) (subst (IsOpen (with_piece held p) went) (sym more_is) still),
         λ i. record {
           mode = Some (kind_is i);

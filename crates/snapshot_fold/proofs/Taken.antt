@@ -5,7 +5,7 @@ use Rattle.std.proofs.Common.{refl, sym, ap, ◌∙◌, subst, arith}
 use Rattle.std.specs.Bool.{OnTrue}
 use Rattle.job_io.specs.calls.Ends.{BothKnown}
 use Rattle.job_io.specs.meaning.Lines.{Line, Reading, lines_of, without_cr, FitsLine, GivesLine, GivesEnd}
-use Rattle.job_io.specs.calls.Reading.{Nexts}
+use Rattle.job_io.specs.calls.Reading.{ReadsNext}
 use Rattle.job_io.specs.declared.line_reader.LineFault.{LineFault}
 use Rattle.job_io.specs.declared.line_reader.LineFault.TheVariants as line
 use Rattle.job_io.proofs.LinesOf.{lines_of-unfinished}
@@ -13,8 +13,8 @@ use Rattle.record_text.specs.meaning.Grammar.{record_of}
 use Rattle.snapshot_fold.specs.declared.folding.FoldStop.{FoldStop}
 use Rattle.snapshot_fold.specs.declared.folding.FoldStop.TheVariants as stop
 use Rattle.snapshot_fold.specs.meaning.FoldState.{FoldState}
-use Rattle.snapshot_fold.specs.meaning.Folding.{said_at, one_line, at_end, led_on, folded_from}
-use Rattle.snapshot_fold.specs.calls.Reading.{stop_of, IsWhy, ComesTo, TakesLine}
+use Rattle.snapshot_fold.specs.meaning.Folding.{state_after_content, state_after_one_line, outcome_at_end, outcome_after, fold_outcome_from}
+use Rattle.snapshot_fold.specs.calls.Reading.{stop_of, IsStopOf, LinesComeTo, TakesLine}
 use Rattle.snapshot_fold.proofs.Judging.{one_line-short, one_line-long, one_line-many}
 use Rattle.snapshot_fold.proofs.Known.{BothKnown-map, some_line}
 use Rattle.snapshot_fold.proofs.Told.{folded_from-cons, rest_from}
@@ -28,7 +28,7 @@ pub record GivesNext (old new : Reading) (was is : Option (List ℕ)) : Type 0 w
   pub same_most : new.most ≡ old.most
   pub live : IsTrue new.live
 
-pub GivesNext-from : (old new : Reading) (was is : Option (List ℕ)) (given : Bool) → given ≡ true → Nexts old new was is (Ok given) →
+pub GivesNext-from : (old new : Reading) (was is : Option (List ℕ)) (given : Bool) → given ≡ true → ReadsNext old new was is (Ok given) →
     OnTrue given (FitsLine new.line) → new.number ≡ cond given (old.number + 1) old.number → new.live ≡ given → new.most ≡ old.most →
     new.number ≤ new.most → GivesNext old new was is
 GivesNext-from old new was is true so nexts fits counted live same_most few =
@@ -43,31 +43,31 @@ both_true false whole both = cc
 module _ (old : Reading) (s : FoldState) (to_come : List ℕ) where
   -- the next line stops the fold
   comes_to_stop : (line : Line) (others : List Line) (why : FoldStop) → lines_of to_come ≡ line ∷ others →
-      one_line old.most (suc old.number) s line ≡ Err why → ComesTo old s to_come (λ a. Err why)
+      state_after_one_line old.most (suc old.number) s line ≡ Err why → LinesComeTo old s to_come (λ a. Err why)
   comes_to_stop line others why follows stopped = λ a later.
-      ap (folded_from old.most a old.number s) follows
+      ap (fold_outcome_from old.most a old.number s) follows
       ∙ folded_from-cons old.most a old.number s line others later
-      ∙ ap (λ r. led_on r (rest_from old.most a old.number line others)) stopped
+      ∙ ap (λ r. outcome_after r (rest_from old.most a old.number line others)) stopped
 
   -- nothing follows
-  comes_to_end : to_come ≡ [] → ComesTo old s to_come (λ a. at_end a old.number s)
+  comes_to_end : to_come ≡ [] → LinesComeTo old s to_come (λ a. outcome_at_end a old.number s)
   comes_to_end nothing = λ a later.
-      ap (λ text. folded_from old.most a old.number s (lines_of text)) nothing
-      ∙ ap (λ b. cond b (Ok s.settled) (at_end a old.number s)) later
+      ap (λ text. fold_outcome_from old.most a old.number s (lines_of text)) nothing
+      ∙ ap (λ b. cond b (Ok s.settled) (outcome_at_end a old.number s)) later
 
   -- a last line without LF follows
-  comes_to_torn : (line : Line) → lines_of to_come ≡ line ∷ [] → line.whole ≡ false → one_line old.most (suc old.number) s line ≡ Ok s →
-      ComesTo old s to_come (λ a. at_end a old.number s)
+  comes_to_torn : (line : Line) → lines_of to_come ≡ line ∷ [] → line.whole ≡ false → state_after_one_line old.most (suc old.number) s line ≡ Ok s →
+      LinesComeTo old s to_come (λ a. outcome_at_end a old.number s)
   comes_to_torn line follows torn dropped = λ a later.
-      ap (folded_from old.most a old.number s) follows
+      ap (fold_outcome_from old.most a old.number s) follows
       ∙ folded_from-cons old.most a old.number s line [] later
-      ∙ ap (λ r. led_on r (rest_from old.most a old.number line [])) dropped
-      ∙ ap (λ w. folded_from old.most a (cond w (suc old.number) old.number) s []) torn
-      ∙ ap (λ b. cond b (Ok s.settled) (at_end a old.number s)) later
+      ∙ ap (λ r. outcome_after r (rest_from old.most a old.number line [])) dropped
+      ∙ ap (λ w. fold_outcome_from old.most a (cond w (suc old.number) old.number) s []) torn
+      ∙ ap (λ b. cond b (Ok s.settled) (outcome_at_end a old.number s)) later
 
 module _ (old new : Reading) (s behind : FoldState) (was is : Option (List ℕ)) where
   -- the reader gives no line
-  pub Takes-fault : (fault : LineFault) → Nexts old new was is (Err fault) → TakesLine old new s behind was is (Err (stop_of fault))
+  pub Takes-fault : (fault : LineFault) → ReadsNext old new was is (Err fault) → TakesLine old new s behind was is (Err (stop_of fault))
   Takes-fault line.ReadFault nexts = nexts.0
   Takes-fault (line.TooLong n) (next, few, known) = BothKnown-map _ _ was is known (λ was is follows.
       let same : suc old.number ≡ n = omega (arith, next) in
@@ -89,8 +89,8 @@ module _ (old new : Reading) (s behind : FoldState) (was is : Option (List ℕ))
 
   module _ (next : GivesNext old new was is) where
     -- the limits of the line are kept
-    kept : one_line old.most (suc old.number) s new.line
-        ≡ cond new.line.whole (said_at (suc old.number) s (record_of (without_cr new.line.bytes))) (Ok s)
+    kept : state_after_one_line old.most (suc old.number) s new.line
+        ≡ cond new.line.whole (state_after_content (suc old.number) s (record_of (without_cr new.line.bytes))) (Ok s)
     kept = one_line-short old.most (suc old.number) s new.line (omega (arith, next.counted, next.few, next.same_most)) next.fits.short
 
     -- the last line has no LF
@@ -101,20 +101,20 @@ module _ (old new : Reading) (s behind : FoldState) (was is : Option (List ℕ))
           let none : new.held ++ is ≡ [] = lines_of-unfinished (old.held ++ was) new.line (new.held ++ is) line.lines torn in
           comes_to_torn old s (old.held ++ was) new.line
           (line.lines ∙ ap (λ text. new.line ∷ lines_of text) none) torn
-          (kept ∙ ap (λ w. cond w (said_at (suc old.number) s (record_of (without_cr new.line.bytes))) (Ok s)) torn)),
+          (kept ∙ ap (λ w. cond w (state_after_content (suc old.number) s (record_of (without_cr new.line.bytes))) (Ok s)) torn)),
     )
 
     module _ (whole : new.line.whole ≡ true) (n : ℕ) (bytes : List ℕ) (n_is : n ≡ new.number) (bytes_is : bytes ≡ new.line.bytes) where
       -- what the line says decides
-      says : one_line old.most (suc old.number) s new.line ≡ said_at n s (record_of (without_cr bytes))
+      says : state_after_one_line old.most (suc old.number) s new.line ≡ state_after_content n s (record_of (without_cr bytes))
       says =
           let number : suc old.number ≡ n = omega (arith, n_is, next.counted) in
           kept
-          ∙ ap (λ w. cond w (said_at (suc old.number) s (record_of (without_cr new.line.bytes))) (Ok s)) whole
-          ∙ ap (λ n. said_at n s (record_of (without_cr new.line.bytes))) number
-          ∙ ap (λ bytes. said_at n s (record_of (without_cr bytes))) (sym bytes_is)
+          ∙ ap (λ w. cond w (state_after_content (suc old.number) s (record_of (without_cr new.line.bytes))) (Ok s)) whole
+          ∙ ap (λ n. state_after_content n s (record_of (without_cr new.line.bytes))) number
+          ∙ ap (λ bytes. state_after_content n s (record_of (without_cr bytes))) (sym bytes_is)
 
-      pub Takes-line : said_at n s (record_of (without_cr bytes)) ≡ Ok behind → TakesLine old new s behind was is (Ok true)
+      pub Takes-line : state_after_content n s (record_of (without_cr bytes)) ≡ Ok behind → TakesLine old new s behind was is (Ok true)
       Takes-line led = (
         next.gives,
         record {
@@ -128,12 +128,12 @@ module _ (old new : Reading) (s behind : FoldState) (was is : Option (List ℕ))
         },
       )
 
-      stopped : (why : FoldStop) → said_at n s (record_of (without_cr bytes)) ≡ Err why →
-          BothKnown was is (λ was is. ComesTo old s (old.held ++ was) (λ a. Err why))
+      stopped : (why : FoldStop) → state_after_content n s (record_of (without_cr bytes)) ≡ Err why →
+          BothKnown was is (λ was is. LinesComeTo old s (old.held ++ was) (λ a. Err why))
       stopped why is_why = BothKnown-map _ _ was is next.gives (λ was is line.
           comes_to_stop old s (old.held ++ was) new.line (lines_of (new.held ++ is)) why line.lines (says ∙ is_why))
 
-      takes_stop : (why : FoldStop) → why ≢ stop.ReadFault → said_at n s (record_of (without_cr bytes)) ≡ Err why →
+      takes_stop : (why : FoldStop) → why ≢ stop.ReadFault → state_after_content n s (record_of (without_cr bytes)) ≡ Err why →
           TakesLine old new s behind was is (Err why)
       takes_stop stop.NoMemory judged is_why = tt
       takes_stop stop.ReadFault judged is_why = absurd (judged refl)
@@ -147,14 +147,14 @@ module _ (old new : Reading) (s behind : FoldState) (was is : Option (List ℕ))
       takes_stop (stop.TooMany n) judged is_why = stopped (stop.TooMany n) is_why
 
       -- the line is refused
-      pub Takes-stop : (why : FoldStop) → why ≢ stop.ReadFault → IsWhy (said_at n s (record_of (without_cr bytes))) why →
+      pub Takes-stop : (why : FoldStop) → why ≢ stop.ReadFault → IsStopOf (state_after_content n s (record_of (without_cr bytes))) why →
           TakesLine old new s behind was is (Err why)
       Takes-stop why judged (inl is_why) = takes_stop why judged is_why
       Takes-stop why judged (inr starved) = subst (λ why. TakesLine old new s behind was is (Err why)) (sym starved) tt
 
 module _ (old new : Reading) (s : FoldState) (was is : Option (List ℕ)) where
   -- no whole line follows
-  pub Takes-none : IsTrue old.line.whole → (given : Bool) → (given && new.line.whole) ≡ false → Nexts old new was is (Ok given) →
+  pub Takes-none : IsTrue old.line.whole → (given : Bool) → (given && new.line.whole) ≡ false → ReadsNext old new was is (Ok given) →
       OnTrue given (FitsLine new.line) → new.number ≡ cond given (old.number + 1) old.number → new.live ≡ given → new.most ≡ old.most →
       new.number ≤ new.most → TakesLine old new s s was is (Ok false)
   Takes-none whole true torn nexts fits counted live same_most few =

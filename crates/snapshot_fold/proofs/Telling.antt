@@ -21,10 +21,10 @@ use Rattle.graph_types.specs.meaning.Orders.{piece_cmp_total}
 use Rattle.graph_types.specs.meaning.Piece.{PieceValue, member_cmp, mode_cmp, most_members, piece_cmp}
 use Rattle.job_io.specs.meaning.Lines.{lf, whole_lines_of}
 use Rattle.job_io.proofs.LinesOf.{whole_lines_of-whole}
-use Rattle.mining_model.specs.meaning.Changes.{without}
+use Rattle.mining_model.specs.meaning.Changes.{difference}
 use Rattle.mining_model.specs.meaning.Embeddings.{Pattern, embeddings, is_embedding, members_of, short_lists}
 use Rattle.mining_model.specs.meaning.Step.{snapshot}
-use Rattle.record_text.specs.meaning.Text.{done_text, member_text, record_line, records_text, spaced, step_text, text_at, text_upto}
+use Rattle.record_text.specs.meaning.Text.{done_text, member_text, record_line, records_text, after_space, step_text, text_at, text_upto}
 use Rattle.mining_model.proofs.Ascending.{IsStrictlySortedBy-embeddings, all-weaker}
 use Rattle.record_text.specs.declared.read.RecordLine.{RecordLine}
 use Rattle.record_text.specs.declared.read.RecordLine.TheVariants.{Rem, Add, Done}
@@ -33,11 +33,11 @@ use Rattle.record_text.specs.meaning.Writable.{IsStamp, IsWritable}
 use Rattle.record_text.proofs.Pieces.{mode_itself}
 use Rattle.record_text.proofs.Written.{IsWritten, HasNoLf-printed, without_cr-printed, rem_written, new_written, done_written}
 use Rattle.snapshot_fold.specs.declared.fault.FoldFault.TheVariants.{MixedModes, OutOfOrder, AddsPresent, RemovesAbsent}
-use Rattle.snapshot_fold.specs.meaning.FoldState.{FoldState, start}
-use Rattle.snapshot_fold.specs.meaning.FoldText.{accepted, fold_text, pieces_where_done}
-use Rattle.snapshot_fold.specs.meaning.Pieces.{is_above, is_among, is_same, with_piece, without_piece}
+use Rattle.snapshot_fold.specs.meaning.FoldState.{FoldState, empty_fold}
+use Rattle.snapshot_fold.specs.meaning.FoldText.{accepted_state, fold_text, pieces_where_done}
+use Rattle.snapshot_fold.specs.meaning.Pieces.{is_above, has_piece, is_same_piece, with_piece, without_piece}
 use Rattle.snapshot_fold.specs.meaning.Records.{AddsShortId, pieces_of}
-use Rattle.snapshot_fold.specs.meaning.Taking.{after_done, after_new, comes_in_order, goes_in_order, after_rem, is_of_other_mode, is_open, taken}
+use Rattle.snapshot_fold.specs.meaning.Taking.{after_done, after_new, comes_in_order, goes_in_order, after_rem, is_of_other_mode, is_open, state_after_record}
 use Rattle.snapshot_fold.proofs.Changes.{ascends-pieces_of, ascends-without, among-with, among-without, came-absent, came-ascends, changes, went-ascends, went-there, with_all, without_all}
 use Rattle.snapshot_fold.proofs.Each.{all-both, all-filter}
 use Rattle.snapshot_fold.proofs.Embedded.{piece_of, writable-embeddings}
@@ -47,15 +47,15 @@ use Rattle.snapshot_fold.proofs.Undone.{Ascends}
 -- ---- one line
 
 -- the fold behind a line that was written, where the fold takes what it says
-pub line_taken : (s behind : FoldState) (said : RecordLine) (line rest text : List ℕ) (t : ℕ) → text ≡ line ++ lf ∷ rest → IsWritten line said → taken s said ≡ Ok behind →
+pub line_taken : (s behind : FoldState) (said : RecordLine) (line rest text : List ℕ) (t : ℕ) → text ≡ line ++ lf ∷ rest → IsWritten line said → state_after_record s said ≡ Ok behind →
     pieces_where_done s (whole_lines_of text) t ≡ (if eqb behind.done t then Some behind.settled else pieces_where_done behind (whole_lines_of rest) t)
 line_taken s behind said line rest text t split written takes =
     let go : Option FoldState → Option (List PieceValue) = option_and_then (λ (b : FoldState). if eqb b.done t then Some b.settled else pieces_where_done b (whole_lines_of rest) t) in
     ap (λ x. pieces_where_done s (whole_lines_of x) t) split
     ∙ ap (λ ls. pieces_where_done s ls t) (whole_lines_of-whole line rest (HasNoLf-printed line written.printed))
-    ∙ ap (λ l. go (option_and_then (λ r. accepted (taken s r)) (record_of l))) (without_cr-printed line written.printed)
-    ∙ ap (λ o. go (option_and_then (λ r. accepted (taken s r)) o)) written.reads
-    ∙ ap (λ r. go (accepted r)) takes
+    ∙ ap (λ l. go (option_and_then (λ r. accepted_state (state_after_record s r)) (record_of l))) (without_cr-printed line written.printed)
+    ∙ ap (λ o. go (option_and_then (λ r. accepted_state (state_after_record s r)) o)) written.reads
+    ∙ ap (λ r. go (accepted_state r)) takes
 
 -- ---- one record
 
@@ -71,20 +71,20 @@ alike_behind : (kind : Mode) → not (is_eq (mode_cmp kind kind)) ≡ false
 alike_behind kind = ap not (mode_itself kind)
 
 record RemTaken (s : FoldState) (kind : Mode) (t : ℕ) (held : List PieceValue) (members : List Member) : Type 0 where
-  takes : taken s (Rem (suc t) (piece_of kind members)) ≡ Ok (after_rem s (piece_of kind members))
+  takes : state_after_record s (Rem (suc t) (piece_of kind members)) ≡ Ok (after_rem s (piece_of kind members))
   within : IsWithin (after_rem s (piece_of kind members)) kind t (without_piece held (piece_of kind members)) (Some (piece_of kind members)) None
 
 rem_taken : (s : FoldState) (kind : Mode) (t : ℕ) (held : List PieceValue) (rem : Option PieceValue) (members : List Member) → IsWithin s kind t held rem None →
-    is_above rem (piece_of kind members) ≡ true → is_among held (piece_of kind members) ≡ true → RemTaken s kind t held members
+    is_above rem (piece_of kind members) ≡ true → has_piece held (piece_of kind members) ≡ true → RemTaken s kind t held members
 rem_taken s kind t held rem members is above there =
     let p = piece_of kind members in
     let next : is_open s (suc t) ≡ true = eq-eqb (suc t) (s.done + 1) (omega (arith, is.done)) in
     let first : is_none s.last_new ≡ true = ap is_none is.new_is in
     let ordered : goes_in_order s (suc t) p ≡ true = and_from _ _ (and_from _ _ next first) (ap (λ r. is_above r p) is.rem_is ∙ above) in
-    let found : is_among s.held p ≡ true = ap (λ h. is_among h p) is.held_is ∙ there in
+    let found : has_piece s.held p ≡ true = ap (λ h. has_piece h p) is.held_is ∙ there in
     record {
-      takes = ap (λ b. if b then Err MixedModes else if not (goes_in_order s (suc t) p) then Err OutOfOrder else if is_among s.held p then Ok (after_rem s p) else Err RemovesAbsent) (is.alike members)
-          ∙ ap (λ b. if not b then Err OutOfOrder else if is_among s.held p then Ok (after_rem s p) else Err RemovesAbsent) ordered
+      takes = ap (λ b. if b then Err MixedModes else if not (goes_in_order s (suc t) p) then Err OutOfOrder else if has_piece s.held p then Ok (after_rem s p) else Err RemovesAbsent) (is.alike members)
+          ∙ ap (λ b. if not b then Err OutOfOrder else if has_piece s.held p then Ok (after_rem s p) else Err RemovesAbsent) ordered
           ∙ ap (λ b. if b then Ok (after_rem s p) else Err RemovesAbsent) found;
       within = record {
         alike = λ _. alike_behind kind;
@@ -96,19 +96,19 @@ rem_taken s kind t held rem members is above there =
     }
 
 record NewTaken (s : FoldState) (kind : Mode) (t : ℕ) (held : List PieceValue) (rem : Option PieceValue) (members : List Member) : Type 0 where
-  takes : taken s (Add (suc t) (piece_of kind members)) ≡ Ok (after_new s (piece_of kind members))
+  takes : state_after_record s (Add (suc t) (piece_of kind members)) ≡ Ok (after_new s (piece_of kind members))
   within : IsWithin (after_new s (piece_of kind members)) kind t (with_piece held (piece_of kind members)) rem (Some (piece_of kind members))
 
 new_taken : (s : FoldState) (kind : Mode) (t : ℕ) (held : List PieceValue) (rem new : Option PieceValue) (members : List Member) → IsWithin s kind t held rem new →
-    is_above new (piece_of kind members) ≡ true → is_among held (piece_of kind members) ≡ false → NewTaken s kind t held rem members
+    is_above new (piece_of kind members) ≡ true → has_piece held (piece_of kind members) ≡ false → NewTaken s kind t held rem members
 new_taken s kind t held rem new members is above absent =
     let p = piece_of kind members in
     let next : is_open s (suc t) ≡ true = eq-eqb (suc t) (s.done + 1) (omega (arith, is.done)) in
     let ordered : comes_in_order s (suc t) p ≡ true = and_from _ _ next (ap (λ r. is_above r p) is.new_is ∙ above) in
-    let found : is_among s.held p ≡ false = ap (λ h. is_among h p) is.held_is ∙ absent in
+    let found : has_piece s.held p ≡ false = ap (λ h. has_piece h p) is.held_is ∙ absent in
     record {
-      takes = ap (λ b. if b then Err MixedModes else if not (comes_in_order s (suc t) p) then Err OutOfOrder else if is_among s.held p then Err AddsPresent else Ok (after_new s p)) (is.alike members)
-          ∙ ap (λ b. if not b then Err OutOfOrder else if is_among s.held p then Err AddsPresent else Ok (after_new s p)) ordered
+      takes = ap (λ b. if b then Err MixedModes else if not (comes_in_order s (suc t) p) then Err OutOfOrder else if has_piece s.held p then Err AddsPresent else Ok (after_new s p)) (is.alike members)
+          ∙ ap (λ b. if not b then Err OutOfOrder else if has_piece s.held p then Err AddsPresent else Ok (after_new s p)) ordered
           ∙ ap (λ b. if b then Err AddsPresent else Ok (after_new s p)) found;
       within = record {
         alike = λ _. alike_behind kind;
@@ -123,7 +123,7 @@ new_taken s kind t held rem new members is above absent =
 
 -- the line before its LF
 body : List ℕ → ℕ → List Member → List ℕ
-body word t members = word ++ spaced (decimal t) ++ flat_map (λ m. spaced (member_text m)) members
+body word t members = word ++ after_space (decimal t) ++ flat_map (λ m. after_space (member_text m)) members
 
 first_record : (word : List ℕ) (t : ℕ) (members : List Member) (more : List (List Member)) (rest : List ℕ) → records_text word t (members ∷ more) ++ rest ≡ body word t members ++ lf ∷ (records_text word t more ++ rest)
 unfolding body
@@ -149,14 +149,14 @@ unfolding IsStrictlySortedBy
 rest_ascends p pieces s = s.1
 
 -- a piece behind p isn't p
-other_behind : (p q : PieceValue) → is_above (Some p) q ≡ true → is_same q p ≡ false
+other_behind : (p q : PieceValue) → is_above (Some p) q ≡ true → is_same_piece q p ≡ false
 other_behind p q above =
     ap is_eq (piece_cmp_total.antisymm q p)
     ∙ (elim (piece_cmp p q) as (λ o. is_lt o ≡ true → is_eq (ordering_reverse o) ≡ false) [ Less ↦ λ _. refl | Equal ↦ λ e. absurd (cc) | Greater ↦ λ e. absurd (cc) ] above)
 
 module _ (kind : Mode) (i t : ℕ) (fits : IsStamp (suc i)) (below : i < t) where
   rems_taken : (went : List (List Member)) (rest : List ℕ) (s : FoldState) (held : List PieceValue) (rem : Option PieceValue) → IsWithin s kind i held rem None →
-      Ascends held → Ascends (pieces_of kind went) → AllByRecursion (λ p. is_above rem p ≡ true) (pieces_of kind went) → AllByRecursion (λ p. is_among held p ≡ true) (pieces_of kind went) →
+      Ascends held → Ascends (pieces_of kind went) → AllByRecursion (λ p. is_above rem p ≡ true) (pieces_of kind went) → AllByRecursion (λ p. has_piece held p ≡ true) (pieces_of kind went) →
       AllByRecursion (λ members. IsWritable (piece_of kind members)) went →
       Leads s (records_text (codes "REM") (suc i) went ++ rest) rest t (λ behind. (last : Option PieceValue) × IsWithin behind kind i (without_all held (pieces_of kind went)) last None)
   rems_taken [] rest s held rem is held_s s' above there can = record { behind = s; so = (rem, is); same = refl }
@@ -164,8 +164,8 @@ module _ (kind : Mode) (i t : ℕ) (fits : IsStamp (suc i)) (below : i < t) wher
       let p = piece_of kind members in
       let first = rem_taken s kind i held rem members is above.0 there.0 in
       let behind_above = above_first p (pieces_of kind went) sorted in
-      let still_there : AllByRecursion (λ q. is_among (without_piece held p) q ≡ true) (pieces_of kind went) =
-      all-weaker (λ q. (is_above (Some p) q ≡ true) × (is_among held q ≡ true)) (λ q. is_among (without_piece held p) q ≡ true)
+      let still_there : AllByRecursion (λ q. has_piece (without_piece held p) q ≡ true) (pieces_of kind went) =
+      all-weaker (λ q. (is_above (Some p) q ≡ true) × (has_piece held q ≡ true)) (λ q. has_piece (without_piece held p) q ≡ true)
       (λ q both. among-without held p q held_s ∙ and_from _ _ (ap not (other_behind p q both.0)) both.1) (pieces_of kind went) (all-both _ _ (pieces_of kind went) behind_above there.1) in
       let later = rems_taken went rest (after_rem s p) (without_piece held p) (Some p) first.within (ascends-without held p held_s) (rest_ascends p (pieces_of kind went) sorted) behind_above still_there can.1 in
       record {
@@ -178,7 +178,7 @@ module _ (kind : Mode) (i t : ℕ) (fits : IsStamp (suc i)) (below : i < t) wher
       }
 
   news_taken : (came : List (List Member)) (rest : List ℕ) (s : FoldState) (held : List PieceValue) (rem new : Option PieceValue) → IsWithin s kind i held rem new →
-      Ascends (pieces_of kind came) → AllByRecursion (λ p. is_above new p ≡ true) (pieces_of kind came) → AllByRecursion (λ p. is_among held p ≡ false) (pieces_of kind came) →
+      Ascends (pieces_of kind came) → AllByRecursion (λ p. is_above new p ≡ true) (pieces_of kind came) → AllByRecursion (λ p. has_piece held p ≡ false) (pieces_of kind came) →
       AllByRecursion (λ members. IsWritable (piece_of kind members)) came →
       Leads s (records_text (codes "NEW") (suc i) came ++ rest) rest t (λ behind. (last : Option PieceValue) × IsWithin behind kind i (with_all held (pieces_of kind came)) rem last)
   news_taken [] rest s held rem new is s' above absent can = record { behind = s; so = (new, is); same = refl }
@@ -186,8 +186,8 @@ module _ (kind : Mode) (i t : ℕ) (fits : IsStamp (suc i)) (below : i < t) wher
       let p = piece_of kind members in
       let first = new_taken s kind i held rem new members is above.0 absent.0 in
       let behind_above = above_first p (pieces_of kind came) sorted in
-      let still_absent : AllByRecursion (λ q. is_among (with_piece held p) q ≡ false) (pieces_of kind came) =
-      all-weaker (λ q. (is_above (Some p) q ≡ true) × (is_among held q ≡ false)) (λ q. is_among (with_piece held p) q ≡ false)
+      let still_absent : AllByRecursion (λ q. has_piece (with_piece held p) q ≡ false) (pieces_of kind came) =
+      all-weaker (λ q. (is_above (Some p) q ≡ true) × (has_piece held q ≡ false)) (λ q. has_piece (with_piece held p) q ≡ false)
       (λ q both. among-with held p q ∙ or_from _ _ (other_behind p q both.0) both.1) (pieces_of kind came) (all-both _ _ (pieces_of kind came) behind_above absent.1) in
       let later = news_taken came rest (after_new s p) (with_piece held p) rem (Some p) first.within (rest_ascends p (pieces_of kind came) sorted) behind_above still_absent can.1 in
       record {
@@ -207,7 +207,7 @@ record IsAt (s : FoldState) (kind : Mode) (t : ℕ) (pieces : List PieceValue) :
   settled_is : s.settled ≡ pieces
 
 done_taken : (s : FoldState) (kind : Mode) (i : ℕ) (held : List PieceValue) (rem new : Option PieceValue) → IsWithin s kind i held rem new →
-    (taken s (Done (suc i)) ≡ Ok (after_done s (suc i))) × IsAt (after_done s (suc i)) kind (suc i) held
+    (state_after_record s (Done (suc i)) ≡ Ok (after_done s (suc i))) × IsAt (after_done s (suc i)) kind (suc i) held
 done_taken s kind i held rem new is = (
   ap (λ b. if b then Ok (after_done s (suc i)) else Err OutOfOrder) (eq-eqb (suc i) (s.done + 1) (omega (arith, is.done))),
   record {
@@ -239,10 +239,10 @@ module _ (pattern : Pattern) (us : List Update) (small : pattern.size ≤ most_m
 
   -- the text of a timestamp, in its parts
   parts_at : (i : ℕ) (rest : List ℕ) → text_at pattern us (suc i) ++ rest ≡
-      records_text (codes "REM") (suc i) (without (at i) (at (suc i))) ++ (records_text (codes "NEW") (suc i) (without (at (suc i)) (at i)) ++ (done_text (suc i) ++ rest))
+      records_text (codes "REM") (suc i) (difference (at i) (at (suc i))) ++ (records_text (codes "NEW") (suc i) (difference (at (suc i)) (at i)) ++ (done_text (suc i) ++ rest))
   parts_at i rest =
-      let rem = records_text (codes "REM") (suc i) (without (at i) (at (suc i))) in
-      let new = records_text (codes "NEW") (suc i) (without (at (suc i)) (at i)) in
+      let rem = records_text (codes "REM") (suc i) (difference (at i) (at (suc i))) in
+      let new = records_text (codes "NEW") (suc i) (difference (at (suc i)) (at i)) in
       let before : suc i - 1 ≡ i = omega arith in
       ap (λ k. step_text pattern (snapshot us k) (snapshot us (suc i)) (suc i) ++ rest) before
       ∙ append_assoc (rem ++ new) (done_text (suc i)) rest
@@ -257,8 +257,8 @@ module _ (pattern : Pattern) (us : List Update) (small : pattern.size ≤ most_m
   timestamp_taken : (i t : ℕ) (s : FoldState) (rest : List ℕ) → IsStamp (suc i) → i < t → IsAt s pattern.mode i (pieces_at i) → Goes s i t rest
   timestamp_taken i t s rest fits below is =
       let kind = pattern.mode in
-      let went = without (at i) (at (suc i)) in
-      let came = without (at (suc i)) (at i) in
+      let went = difference (at i) (at (suc i)) in
+      let came = difference (at (suc i)) (at i) in
       let closing = done_text (suc i) ++ rest in
       let held = pieces_at i in
       let rems = rems_taken kind i t fits below went (records_text (codes "NEW") (suc i) came ++ closing) s held None is.within
@@ -312,10 +312,10 @@ module _ (pattern : Pattern) (us : List Update) (small : pattern.size ≤ most_m
   no_members mode.Vertex = ap (map member.Vertex) (no_keys nat_cmp)
   no_members mode.Edge = ap (map member.Edge) (no_keys pair_cmp)
 
-  at_start : IsAt start pattern.mode 0 (pieces_at 0)
+  at_start : IsAt empty_fold pattern.mode 0 (pieces_at 0)
   at_start =
       let none : at 0 ≡ [] = ap (λ members. filter (is_embedding pattern empty_graph) (short_lists pattern.size members)) (no_members pattern.mode) in
-      subst (λ lists. IsAt start pattern.mode 0 (pieces_of pattern.mode lists)) (sym none) (record {
+      subst (λ lists. IsAt empty_fold pattern.mode 0 (pieces_of pattern.mode lists)) (sym none) (record {
         within = record { alike = λ _. refl; done = refl; held_is = refl; rem_is = refl; new_is = refl };
         settled_is = refl;
       })
@@ -323,6 +323,6 @@ module _ (pattern : Pattern) (us : List Update) (small : pattern.size ≤ most_m
   pub fold_text-upto : (m t : ℕ) → m < 2 ^ 64 → 1 ≤ t → t ≤ m → fold_text (text_upto pattern us m) t ≡ Some (pieces_of pattern.mode (embeddings pattern (snapshot us t)))
   fold_text-upto m t fits some within =
       let late : eqb t 0 ≡ false = ne_eqb t 0 (λ e. omega (arith, e, some)) in
-      ap (λ b. if b then Some [] else pieces_where_done start (whole_lines_of (text_upto pattern us m)) t) late
-      ∙ ap (λ text. pieces_where_done start (whole_lines_of text) t) (sym (text_upto-behind 0 m m (omega arith)))
-      ∙ told m 0 t start at_start (omega (arith, some)) (omega (arith, within)) (omega (arith, fits))
+      ap (λ b. if b then Some [] else pieces_where_done empty_fold (whole_lines_of (text_upto pattern us m)) t) late
+      ∙ ap (λ text. pieces_where_done empty_fold (whole_lines_of text) t) (sym (text_upto-behind 0 m m (omega arith)))
+      ∙ told m 0 t empty_fold at_start (omega (arith, some)) (omega (arith, within)) (omega (arith, fits))

@@ -7,7 +7,7 @@ use Rattle.graph_types.specs.meaning.Piece.{PieceValue}
 use Rattle.job_io.specs.meaning.Lines.{lines_of}
 use Rattle.snapshot_fold.specs.declared.folding.FoldStop.TheVariants as stop
 use Rattle.snapshot_fold.specs.meaning.FoldText.{fold_text}
-use Rattle.snapshot_fold.specs.meaning.Folding.{folded}
+use Rattle.snapshot_fold.specs.meaning.Folding.{fold_outcome}
 
 triangle : PieceValue
 triangle = record { mode = mode.Vertex; members = member.Vertex 1 ∷ member.Vertex 2 ∷ member.Vertex 3 ∷ [] }
@@ -32,24 +32,24 @@ at_fourth : fold_text text 4 ≡ None
 unfolding text
 at_fourth = refl
 
-folded_at_second : folded 10 (Some 2) (lines_of text) ≡ Ok (triangle ∷ [])
+folded_at_second : fold_outcome 10 (Some 2) (lines_of text) ≡ Ok (triangle ∷ [])
 unfolding text triangle
 folded_at_second = refl
 
 -- the last line is torn, and the one before says that 3 is done
-folded_at_end : folded 10 None (lines_of text) ≡ Ok []
+folded_at_end : fold_outcome 10 None (lines_of text) ≡ Ok []
 unfolding text
 folded_at_end = refl
 
-folded_at_fourth : folded 10 (Some 4) (lines_of text) ≡ Err (stop.NotDone 6)
+folded_at_fourth : fold_outcome 10 (Some 4) (lines_of text) ≡ Err (stop.NotDone 6)
 unfolding text
 folded_at_fourth = refl
 
 -- a line too many stops a fold, unless its timestamp is done before
-folded_short : folded 2 None (lines_of text) ≡ Err (stop.TooMany 3)
+folded_short : fold_outcome 2 None (lines_of text) ≡ Err (stop.TooMany 3)
 unfolding text
 folded_short = refl
 
-folded_before : folded 1 (Some 1) (lines_of text) ≡ Ok []
+folded_before : fold_outcome 1 (Some 1) (lines_of text) ≡ Ok []
 unfolding text
 folded_before = refl

@@ -2,9 +2,9 @@ ghost use Rattle.std.specs.Prelude.{◌≡◌, true, false, not, IsTrue, Ok, Err
 ghost use Rattle.std.specs.List.Sorted.{IsStrictlySortedBy};
 ghost use Rattle.std.specs.Option.{is_none};
 ghost use Rattle.graph_types.specs.meaning.Piece.{piece_cmp};
-ghost use Rattle.snapshot_fold.specs.meaning.FoldState.{start};
-ghost use Rattle.snapshot_fold.specs.meaning.Pieces.{is_above, is_among, last_of};
-ghost use Rattle.snapshot_fold.specs.meaning.Taking.{IsRefusal, after_new, comes_in_order, goes_in_order, after_rem, is_of_other_mode, is_open, taken};
+ghost use Rattle.snapshot_fold.specs.meaning.FoldState.{empty_fold};
+ghost use Rattle.snapshot_fold.specs.meaning.Pieces.{is_above, has_piece, last_of};
+ghost use Rattle.snapshot_fold.specs.meaning.Taking.{IsRecordRefusal, after_new, comes_in_order, goes_in_order, after_rem, is_of_other_mode, is_open, state_after_record};
 ghost use Rattle.snapshot_fold.specs.declared.fault.FoldFault.TheVariants.{AddsPresent, RemovesAbsent};
 ghost use Rattle.record_text.specs.declared.read.RecordLine.TheVariants.{Rem, Add, Done};
 
@@ -31,14 +31,14 @@ pub struct Fold {
 impl Model for Fold {
     ghost use Rattle.snapshot_fold.specs.meaning.FoldState.{FoldState};
     ghost use Rattle.snapshot_fold.specs.meaning.Pieces.{last_of};
-    ghost use Rattle.snapshot_fold.specs.storage.Undone.{IsOpen, undone};
+    ghost use Rattle.snapshot_fold.specs.storage.Undone.{IsOpen, pieces_before_open};
 
     ghost Value = { FoldState };
 
     ghost view = { λ f. record {
       mode = f.mode;
       done = f.done;
-      settled = undone f.pieces.keys f.went f.came;
+      settled = pieces_before_open f.pieces.keys f.went f.came;
       held = f.pieces.keys;
       last_rem = last_of f.went;
       last_new = last_of f.came;
@@ -50,7 +50,7 @@ impl Model for Fold {
 impl Fold {
     /// Before the first record. It takes its memory from `alloc`, and none yet.
     pub fn new(alloc: Global) -> Fold
-        ensures { result ≡ start }
+        ensures { result ≡ empty_fold }
     {
         Fold {
             alloc,
@@ -65,8 +65,8 @@ impl Fold {
     /// Takes the next record, in time logarithmic in the number of pieces that are held. A line that
     /// says nothing changes nothing.
     pub fn take(&mut self, line: &RecordLine) -> Result<(), FoldFault>
-        ensures ok { OnOk result (taken self.old line.now ≡ Ok self.new) }
-        ensures refused { IfErr result (IsRefusal (taken self.old line.now)) }
+        ensures ok { OnOk result (state_after_record self.old line.now ≡ Ok self.new) }
+        ensures refused { IfErr result (IsRecordRefusal (state_after_record self.old line.now)) }
         ensures unchanged { OnErr result (self.new ≡ self.old) }
     {
         match line {
@@ -99,8 +99,8 @@ impl Fold {
     }
 
     fn take_rem(&mut self, stamp: Stamp, piece: &Piece) -> Result<(), FoldFault>
-        ensures ok { OnOk result (taken self.old (Rem stamp piece.now) ≡ Ok self.new) }
-        ensures refused { IfErr result (IsRefusal (taken self.old (Rem stamp piece.now))) }
+        ensures ok { OnOk result (state_after_record self.old (Rem stamp piece.now) ≡ Ok self.new) }
+        ensures refused { IfErr result (IsRecordRefusal (state_after_record self.old (Rem stamp piece.now))) }
         ensures unchanged { OnErr result (self.new ≡ self.old) }
     {
         if self.is_of_other_mode(piece) {
@@ -113,8 +113,8 @@ impl Fold {
     }
 
     fn take_add(&mut self, stamp: Stamp, piece: &Piece) -> Result<(), FoldFault>
-        ensures ok { OnOk result (taken self.old (Add stamp piece.now) ≡ Ok self.new) }
-        ensures refused { IfErr result (IsRefusal (taken self.old (Add stamp piece.now))) }
+        ensures ok { OnOk result (state_after_record self.old (Add stamp piece.now) ≡ Ok self.new) }
+        ensures refused { IfErr result (IsRecordRefusal (state_after_record self.old (Add stamp piece.now))) }
         ensures unchanged { OnErr result (self.new ≡ self.old) }
     {
         if self.is_of_other_mode(piece) {
@@ -127,8 +127,8 @@ impl Fold {
     }
 
     fn take_done(&mut self, stamp: Stamp) -> Result<(), FoldFault>
-        ensures ok { OnOk result (taken self.old (Done stamp) ≡ Ok self.new) }
-        ensures refused { IfErr result (IsRefusal (taken self.old (Done stamp))) }
+        ensures ok { OnOk result (state_after_record self.old (Done stamp) ≡ Ok self.new) }
+        ensures refused { IfErr result (IsRecordRefusal (state_after_record self.old (Done stamp))) }
         ensures unchanged { OnErr result (self.new ≡ self.old) }
     {
         if !self.is_open(stamp) {
@@ -178,9 +178,9 @@ impl Fold {
     fn take_out(&mut self, piece: &Piece) -> Result<(), FoldFault>
         requires first { self.old.last_new ≡ None }
         requires above { IsTrue (is_above self.old.last_rem piece.now) }
-        ensures ok { OnOk result (IsTrue (is_among self.old.held piece.now)
+        ensures ok { OnOk result (IsTrue (has_piece self.old.held piece.now)
             × (self.new ≡ after_rem self.old piece.now)) }
-        ensures refused { IfErr result (IsRefusal (if is_among self.old.held piece.now
+        ensures refused { IfErr result (IsRecordRefusal (if has_piece self.old.held piece.now
             then Ok (after_rem self.old piece.now) else Err RemovesAbsent)) }
         ensures unchanged { OnErr result (self.new ≡ self.old) }
     {
@@ -202,9 +202,9 @@ impl Fold {
     /// Puts a piece in, if it isn't there.
     fn put_in(&mut self, piece: &Piece) -> Result<(), FoldFault>
         requires above { IsTrue (is_above self.old.last_new piece.now) }
-        ensures ok { OnOk result ((is_among self.old.held piece.now ≡ false)
+        ensures ok { OnOk result ((has_piece self.old.held piece.now ≡ false)
             × (self.new ≡ after_new self.old piece.now)) }
-        ensures refused { IfErr result (IsRefusal (if is_among self.old.held piece.now
+        ensures refused { IfErr result (IsRecordRefusal (if has_piece self.old.held piece.now
             then Err AddsPresent else Ok (after_new self.old piece.now))) }
         ensures unchanged { OnErr result (self.new ≡ self.old) }
     {

@@ -1,12 +1,12 @@
 ghost use Rattle.std.specs.Prelude.{◌≡◌, ◌≢◌, ◌≤◌, ◌^◌, ◌&&◌, [], IsTrue, Some, Ok, Err, IfErr, IfOk, OnOk};
 ghost use Rattle.std.specs.List.Sorted.{IsStrictlySortedBy};
 ghost use Rattle.graph_types.specs.meaning.Piece.{piece_cmp};
-ghost use Rattle.job_io.specs.calls.Ends.{Rose};
+ghost use Rattle.job_io.specs.calls.Ends.{HasRisen};
 ghost use Rattle.job_io.specs.meaning.Lines.{without_cr as without_cr_of};
 ghost use Rattle.record_text.specs.meaning.Grammar.{record_of};
-ghost use Rattle.snapshot_fold.specs.meaning.Folding.{at_end, is_reached as is_reached_at, said_at, stop_at};
-ghost use Rattle.snapshot_fold.specs.calls.Folds.{AreTold, Folds};
-ghost use Rattle.snapshot_fold.specs.calls.Reading.{Gives, IsWhy, TakesLine};
+ghost use Rattle.snapshot_fold.specs.meaning.Folding.{outcome_at_end, is_reached as is_reached_at, state_after_content, stop_at};
+ghost use Rattle.snapshot_fold.specs.calls.Folds.{AreTold, FoldsRecords};
+ghost use Rattle.snapshot_fold.specs.calls.Reading.{IsOutcome, IsStopOf, TakesLine};
 
 use crate::{Fold, FoldFault};
 use graph_types::{NoMemory, PieceList, Stamp};
@@ -93,7 +93,7 @@ pub fn fold_records<S: Source>(
     input: &mut S,
 ) -> Result<PieceList, FoldStop>
     requires { most_lines ≤ 10 ^ 19 }
-    ensures folds { Folds most_lines at (S.left input.old) (S.left input.new) result }
+    ensures folds { FoldsRecords most_lines at (S.left input.old) (S.left input.new) result }
     ensures told { IfOk result (AreTold at (S.left input.old) (S.left input.new)) }
     ensures ascending { IfOk result (IsStrictlySortedBy piece_cmp) }
 
@@ -101,7 +101,7 @@ pub fn fold_records<S: Source>(
     ensures none { at ≡ Some 0 → result ≡ Ok [] }
     ensures unread { at ≡ Some 0 → input.new ≡ input.old }
     ensures kept { S.faults input.old ≤ S.faults input.new }
-    ensures cause { result ≡ Err FoldStop.ReadFault → Rose (S.faults input.old) (S.faults input.new) }
+    ensures cause { result ≡ Err FoldStop.ReadFault → HasRisen (S.faults input.old) (S.faults input.new) }
 {
     if is_reached(&at, Stamp(0)) {
         return Ok(PieceList::new(alloc));
@@ -116,10 +116,10 @@ fn fold_lines<S: Source>(
     input: &mut S,
 ) -> Result<PieceList, FoldStop>
     requires { most_lines ≤ 10 ^ 19 }
-    ensures folds { Folds most_lines at (S.left input.old) (S.left input.new) result }
+    ensures folds { FoldsRecords most_lines at (S.left input.old) (S.left input.new) result }
     ensures ascending { IfOk result (IsStrictlySortedBy piece_cmp) }
     ensures kept { S.faults input.old ≤ S.faults input.new }
-    ensures cause { result ≡ Err FoldStop.ReadFault → Rose (S.faults input.old) (S.faults input.new) }
+    ensures cause { result ≡ Err FoldStop.ReadFault → HasRisen (S.faults input.old) (S.faults input.new) }
 {
     let mut reader = LineReader::new(alloc, most_lines)?;
     let mut fold = Fold::new(alloc);
@@ -145,7 +145,7 @@ fn take_line<S: Source>(
     ensures takes { TakesLine reader.old reader.new fold.old fold.new
         (S.left input.old) (S.left input.new) result }
     ensures kept { S.faults input.old ≤ S.faults input.new }
-    ensures cause { result ≡ Err FoldStop.ReadFault → Rose (S.faults input.old) (S.faults input.new) }
+    ensures cause { result ≡ Err FoldStop.ReadFault → HasRisen (S.faults input.old) (S.faults input.new) }
 {
     let given = reader.next(input)?;
     if !is_whole(reader, given) {
@@ -165,9 +165,9 @@ fn is_whole(reader: &LineReader, given: bool) -> bool
 /// Folds a whole line.
 fn fold_line(fold: &mut Fold, number: u64, line: &[u8]) -> Result<(), FoldStop>
     ensures led { OnOk result
-        (said_at number fold.old (record_of (without_cr_of line.now)) ≡ Ok fold.new) }
+        (state_after_content number fold.old (record_of (without_cr_of line.now)) ≡ Ok fold.new) }
     ensures stopped { IfErr result
-        (IsWhy (said_at number fold.old (record_of (without_cr_of line.now)))) }
+        (IsStopOf (state_after_content number fold.old (record_of (without_cr_of line.now)))) }
     ensures judged { result ≢ Err FoldStop.ReadFault }
 {
     let Ok(said) = read_record(without_cr(line)) else {
@@ -196,7 +196,7 @@ fn end(
     whole_lines: u64,
     fold: &Fold,
 ) -> Result<PieceList, FoldStop>
-    ensures gives { Gives result (at_end at.now whole_lines fold.now) }
+    ensures gives { IsOutcome result (outcome_at_end at.now whole_lines fold.now) }
     ensures ascending { IfOk result (IsStrictlySortedBy piece_cmp) }
     ensures judged { result ≢ Err FoldStop.ReadFault }
 {
@@ -208,7 +208,7 @@ fn end(
 
 /// The pieces at the last timestamp that is done.
 fn list(alloc: Global, fold: &Fold) -> Result<PieceList, FoldStop>
-    ensures gives { Gives result (Ok fold.now.settled) }
+    ensures gives { IsOutcome result (Ok fold.now.settled) }
     ensures ascending { IfOk result (IsStrictlySortedBy piece_cmp) }
     ensures judged { result ≢ Err FoldStop.ReadFault }
 {

@@ -1,6 +1,6 @@
 ghost use Rattle.std.specs.Prelude.{◌≡◌, ◌++◌, true, false, drop, IfOk, OnOk, MatchOption};
 ghost use Rattle.snapshot_fold.specs.meaning.Pieces.{is_above as is_above_last, last_of};
-ghost use Rattle.snapshot_fold.specs.storage.Undone.{begins_with, beyond, undone, up_to};
+ghost use Rattle.snapshot_fold.specs.storage.Undone.{begins_with, pieces_above, pieces_before_open, pieces_up_to};
 
 use graph_types::{NoMemory, Piece, PieceList};
 use std::alloc::Global;
@@ -14,7 +14,7 @@ pub fn put_back(
     went: &[Piece],
     came: &[Piece],
 ) -> Result<PieceList, NoMemory>
-    ensures { IfOk result (λ pieces. pieces ≡ undone held.now.keys went.now came.now) }
+    ensures { IfOk result (λ pieces. pieces ≡ pieces_before_open held.now.keys went.now came.now) }
 {
     let mut pieces = PieceList::new(alloc);
     let mut to_put = went;
@@ -46,8 +46,8 @@ fn put_up_to<'a>(
     went: &'a [Piece],
     piece: &Piece,
 ) -> Result<&'a [Piece], NoMemory>
-    ensures put { OnOk result (pieces.new ≡ pieces.old ++ up_to went.now piece.now) }
-    ensures left { IfOk result (λ left. left.now ≡ beyond went.now piece.now) }
+    ensures put { OnOk result (pieces.new ≡ pieces.old ++ pieces_up_to went.now piece.now) }
+    ensures left { IfOk result (λ left. left.now ≡ pieces_above went.now piece.now) }
 {
     let mut left = went;
     while let [first, later @ ..] = left

@@ -7,7 +7,7 @@ use Rattle.command_words.specs.declared.command.Verb.{Verb}
 use Rattle.command_words.specs.declared.command.Verb.TheVariants.{Mine, Fold}
 use Rattle.command_words.specs.declared.command.Options.{Options}
 use Rattle.command_words.specs.declared.command.Command.{Command}
-use Rattle.command_words.specs.meaning.Words.{command_of, options_said, verb_of}
+use Rattle.command_words.specs.meaning.Words.{command_of, options_of_words, verb_of}
 use Rattle.tesseract.specs.meaning.Commands.{fold_command, is_still, mine_command}
 
 -- a command with options that were given
@@ -28,7 +28,7 @@ named (Some verb) said c given = ap Some (of_verb verb (said verb) c given)
 -- the command is that of the first word
 first_word : (word : List ℕ) (words : List (List ℕ)) (c : Command) → command_of (word ∷ words) ≡ Some c →
     verb_of word ≡ Some c.verb
-first_word word words c given = named (verb_of word) (λ verb. options_said verb words) c given
+first_word word words c given = named (verb_of word) (λ verb. options_of_words verb words) c given
 
 is_fold : (m f : Bool) → (if m then Some Mine else if f then Some Fold else None) ≡ Some Fold → f ≡ true
 is_fold true f named = absurd (let e : Some Mine ≡ Some Fold = named in cc)

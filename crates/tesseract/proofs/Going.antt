@@ -6,7 +6,7 @@ use Rattle.std.proofs.Common.{append-nil}
 use Rattle.std.specs.Prelude.{IsTrue}
 use Rattle.std.specs.Io.KnownBytes.{Appends}
 use Rattle.std.proofs.Math.Seq.{take-append_seam}
-use Rattle.job_io.specs.calls.Ends.{BothKnown, AppendsFront, PassesOn}
+use Rattle.job_io.specs.calls.Ends.{BothKnown, AppendsPrefix, PassesOn}
 use Rattle.job_io.proofs.Gathering.{Appends-then, PassesOn-start, PassesOn-then, AppendsFront-then}
 use Rattle.job_io.proofs.Gathering.{AppendsFront-more}
 use Rattle.job_io.specs.meaning.Lines.{lf, HasNoLf, Line, Reading, lines_of, whole_lines_of, line_text}
@@ -14,13 +14,13 @@ use Rattle.job_io.specs.meaning.Lines.{GivesLine, GivesEnd, StopsInLine}
 use Rattle.job_io.proofs.LinesOf.{whole_lines_of-whole, whole_lines_of-none, lines_of-unfinished}
 use Rattle.tesseract.specs.declared.status.Status.{Status}
 use Rattle.tesseract.specs.declared.status.Status.TheVariants as status
-use Rattle.tesseract.specs.meaning.Job.{Stage, heading, streaming, first_stage, accepted, judged, ended, judge, verdict}
-use Rattle.tesseract.specs.meaning.Job.{text_of, end_of}
-use Rattle.tesseract.specs.calls.Progress.{text_behind, Reached}
-use Rattle.tesseract.specs.calls.Run.{IsJob, IsFrontOfJob, WritesFront, Mines}
-use Rattle.tesseract.specs.calls.Running.{Running, AtLine, WholeSoFar, IsBehindLast, EndsClean}
-use Rattle.tesseract.specs.calls.Running.{EndsRefused, Ends}
-use Rattle.tesseract.specs.calls.Running.{IfUnread, IsFrontOfText, Ended, IsEnd}
+use Rattle.tesseract.specs.meaning.Job.{Stage, heading, streaming, first_stage, accepted, judgement, verdict_at_end, verdict_from, verdict}
+use Rattle.tesseract.specs.meaning.Job.{job_text, job_end}
+use Rattle.tesseract.specs.calls.Progress.{text_from_stage, HasReached}
+use Rattle.tesseract.specs.calls.Run.{IsJob, IsPrefixOfJob, WritesPrefix, Mines}
+use Rattle.tesseract.specs.calls.Running.{IsRunning, AtLine, WholeSoFar, IsAfterLast, EndsClean}
+use Rattle.tesseract.specs.calls.Running.{EndsRefused, EndsJob}
+use Rattle.tesseract.specs.calls.Running.{IfUnread, IsPrefixOfText, HasEnded, IsEnd}
 use Rattle.tesseract.proofs.Leading.{LeadsOn, Belongs}
 use Rattle.tesseract.proofs.Reaching.{IsStop, judged-stop, Reached-start, Reached-moved}
 use Rattle.tesseract.proofs.Reaching.{Reached-accepted, Reached-refused_text, Reached-refused_end}
@@ -49,7 +49,7 @@ BothKnown-map P Q (Some was) (Some is) p f = f was is p
 
 pub Running-start : (most : ℕ) (left written : Option (List ℕ)) (reader : Reading) →
     IsTrue reader.line.whole → reader.number ≡ 0 → reader.held ≡ [] →
-    Running most left left written written [] reader first_stage 0
+    IsRunning most left left written written [] reader first_stage 0
 Running-start most left written reader finished none empty = record {
   text = [];
   passed = PassesOn-start written [];
@@ -57,7 +57,7 @@ Running-start most left written reader finished none empty = record {
     gone = [];
     lines = ap (λ held. lines_of (held ++ bytes)) (sym empty);
     reached =
-        subst (λ n. Reached most [] [] n 0 first_stage) (sym none) (Reached-start most);
+        subst (λ n. HasReached most [] [] n 0 first_stage) (sym none) (Reached-start most);
     whole =
         inl (record {
           finished = finished;
@@ -71,36 +71,36 @@ Running-start most left written reader finished none empty = record {
 -- the lines so far and the next one are judged
 reached_next : (most : ℕ) (gone : List Line) (text more : List ℕ) (n t u : ℕ) (stage next : Stage)
     (line : Line) →
-    Reached most gone text n t stage → LeadsOn most (suc n) stage t line.bytes next u more →
-    Reached most (gone ++ line ∷ []) (text ++ more) (suc n) u next
+    HasReached most gone text n t stage → LeadsOn most (suc n) stage t line.bytes next u more →
+    HasReached most (gone ++ line ∷ []) (text ++ more) (suc n) u next
 reached_next most gone text more n t u stage next line reached (inl m) =
     let so = Reached-moved most gone text n t stage next line reached m.stamp_of_stage m.moved_is in
     let same : text ≡ text ++ more =
     sym (append-nil text) ∙ ap (λ xs. text ++ xs) (sym m.no_text) in
-    subst (λ u. Reached most (gone ++ line ∷ []) (text ++ more) (suc n) u next) (sym m.same_stamp)
-    (subst (λ text. Reached most (gone ++ line ∷ []) text (suc n) t next) same so)
+    subst (λ u. HasReached most (gone ++ line ∷ []) (text ++ more) (suc n) u next) (sym m.same_stamp)
+    (subst (λ text. HasReached most (gone ++ line ∷ []) text (suc n) t next) same so)
 reached_next most gone text more n t u stage next line reached (inr a) =
-    let at : Reached most gone text n t (streaming a.pattern a.names a.before) =
-    subst (Reached most gone text n t) a.stage_is reached in
+    let at : HasReached most gone text n t (streaming a.pattern a.names a.before) =
+    subst (HasReached most gone text n t) a.stage_is reached in
     let judged_is :
-    judged most (suc n) (streaming a.pattern a.names a.before) line.bytes
+    judgement most (suc n) (streaming a.pattern a.names a.before) line.bytes
     ≡ accepted a.update a.pattern a.later a.now =
-    ap (λ s. judged most (suc n) s line.bytes) (sym a.stage_is) ∙ a.accepted_is in
+    ap (λ s. judgement most (suc n) s line.bytes) (sym a.stage_is) ∙ a.accepted_is in
     let so =
     Reached-accepted most gone text n t a.pattern a.pattern a.names a.later a.before a.now a.update
     line at judged_is in
-    subst (λ u. Reached most (gone ++ line ∷ []) (text ++ more) (suc n) u next) (sym a.stamp_is)
-    (subst (λ s. Reached most (gone ++ line ∷ []) (text ++ more) (suc n) (suc t) s) (sym a.next_is)
+    subst (λ u. HasReached most (gone ++ line ∷ []) (text ++ more) (suc n) u next) (sym a.stamp_is)
+    (subst (λ s. HasReached most (gone ++ line ∷ []) (text ++ more) (suc n) (suc t) s) (sym a.next_is)
     (subst
-    (λ xs. Reached most (gone ++ line ∷ []) (text ++ xs) (suc n) (suc t)
+    (λ xs. HasReached most (gone ++ line ∷ []) (text ++ xs) (suc n) (suc t)
     (streaming a.pattern a.later a.now))
     (sym a.text_is) so))
 
 -- what LFs ended so far, once the next line was given
 whole_next : (bytes was is : List ℕ) (gone : List Line) (old new : Reading) →
     HasNoLf new.line.bytes → GivesLine old new was is →
-    (whole : Bool) → new.line.whole ≡ whole → WholeSoFar bytes was gone old ⊎ IsBehindLast was old →
-    WholeSoFar bytes is (gone ++ new.line ∷ []) new ⊎ IsBehindLast is new
+    (whole : Bool) → new.line.whole ≡ whole → WholeSoFar bytes was gone old ⊎ IsAfterLast was old →
+    WholeSoFar bytes is (gone ++ new.line ∷ []) new ⊎ IsAfterLast is new
 whole_next bytes was is gone old new no_lf gives false no_end so_far =
     inr (record {
       unfinished = no_end;
@@ -147,7 +147,7 @@ at_next most bytes was is text more old new stage next t u no_lf counted leads a
       at.lines ∙ ap (λ lines. at.gone ++ lines) gives.lines
       ∙ sym (append_assoc at.gone (new.line ∷ []) (lines_of (new.held ++ is)));
   reached =
-      subst (λ n. Reached most (at.gone ++ new.line ∷ []) (text ++ more) n u next) (sym counted)
+      subst (λ n. HasReached most (at.gone ++ new.line ∷ []) (text ++ more) n u next) (sym counted)
       (reached_next most at.gone text more old.number t u stage next new.line at.reached leads);
   whole = whole_next bytes was is at.gone old new no_lf gives new.line.whole refl at.whole;
 }
@@ -158,8 +158,8 @@ pub Running-led : (most : ℕ) (left0 left left' written0 written written' : Opt
     LeadsOn most (suc old.number) stage t new.line.bytes next u more →
     PassesOn written page written' page' more →
     BothKnown left left' (GivesLine old new) →
-    Running most left0 left written0 written page old stage t →
-    Running most left0 left' written0 written' page' new next u
+    IsRunning most left0 left written0 written page old stage t →
+    IsRunning most left0 left' written0 written' page' new next u
 Running-led most left0 left left' written0 written written' page page' more old new stage next t u
     no_lf counted leads passed gives running = record {
       text = running.text ++ more;
@@ -182,22 +182,22 @@ unless_unread status.ReadFault unread read stop so = absurd stop
 unless_unread status.WriteFault unread read stop so = absurd stop
 
 unless_unread_clean : (n : ℕ) (stage : Stage) (unread read : Type 0) → read →
-    IfUnread (end_of (ended n stage None)) unread read
+    IfUnread (job_end (verdict_at_end n stage None)) unread read
 unless_unread_clean n (heading next names) unread read so = so
 unless_unread_clean n (streaming pattern names g) unread read so = so
 
 module _ (most : ℕ) (bytes was is text : List ℕ) (old new : Reading) (stage : Stage) (t : ℕ)
     (at : AtLine most bytes was text old stage t) where
   -- the text so far is a front of the whole
-  front_at : IsFrontOfText most bytes text
+  front_at : IsPrefixOfText most bytes text
   front_at = (
-    text_behind stage t (judge most old.number stage (lines_of (old.held ++ was))),
-    ap (λ lines. text_of (verdict most lines)) at.lines
+    text_from_stage stage t (verdict_from most old.number stage (lines_of (old.held ++ was))),
+    ap (λ lines. job_text (verdict most lines)) at.lines
         ∙ at.reached.whole_text (lines_of (old.held ++ was)),
   )
 
   -- no line follows
-  nothing_left : GivesEnd old new was is → WholeSoFar bytes was at.gone old ⊎ IsBehindLast was old →
+  nothing_left : GivesEnd old new was is → WholeSoFar bytes was at.gone old ⊎ IsAfterLast was old →
       old.held ++ was ≡ []
   nothing_left ends (inl so_far) = ends.taken ∙ ends.ended so_far.finished
   nothing_left ends (inr last) = last.nothing
@@ -210,10 +210,10 @@ module _ (most : ℕ) (bytes was is text : List ℕ) (old new : Reading) (stage 
       record {
         text_is =
             sym (Reached-end_text most at.gone text old.number t stage at.reached)
-            ∙ ap (λ lines. text_of (verdict most lines)) (sym lines);
+            ∙ ap (λ lines. job_text (verdict most lines)) (sym lines);
         end_is =
             ends.why_is ∙ sym (Reached-end most at.gone text old.number t stage at.reached)
-            ∙ ap (λ lines. end_of (verdict most lines)) (sym lines);
+            ∙ ap (λ lines. job_end (verdict most lines)) (sym lines);
       }
 
   job_refused : (why : Status) → EndsRefused most (old.held ++ was) old.number stage why →
@@ -225,15 +225,15 @@ module _ (most : ℕ) (bytes was is text : List ℕ) (old new : Reading) (stage 
         text_is =
             sym (Reached-refused_text most at.gone text old.number t stage at.reached ends.line
             ends.others why ends.refused_is)
-            ∙ ap (λ lines. text_of (verdict most lines)) (sym lines);
+            ∙ ap (λ lines. job_text (verdict most lines)) (sym lines);
         end_is =
             sym (Reached-refused_end most at.gone text old.number t stage at.reached ends.line
             ends.others why ends.refused_is)
-            ∙ ap (λ lines. end_of (verdict most lines)) (sym lines);
+            ∙ ap (λ lines. job_end (verdict most lines)) (sym lines);
       }
 
   job_unread : StopsInLine old new was is →
-      WholeSoFar bytes was at.gone old ⊎ IsBehindLast was old → IsFrontOfJob most bytes is text
+      WholeSoFar bytes was at.gone old ⊎ IsAfterLast was old → IsPrefixOfJob most bytes is text
   job_unread stops (inr last) =
       let no : false ≡ true = sym last.unfinished ∙ stops.after_whole in cc
   job_unread stops (inl so_far) =
@@ -248,16 +248,16 @@ module _ (most : ℕ) (bytes was is text : List ℕ) (old new : Reading) (stage 
             ∙ sym (append_assoc so_far.given new.held is);
         text_is =
             sym (Reached-end_text most at.gone text old.number t stage at.reached)
-            ∙ ap (λ lines. text_of (verdict most lines)) (sym lines);
+            ∙ ap (λ lines. job_text (verdict most lines)) (sym lines);
         no_stop =
             ap (λ lines. (verdict most lines).stop) lines
             ∙ Reached-no_stop most at.gone text old.number t stage at.reached;
       }
 
-  job_at : (why : Status) → Ends most old new was is stage why →
-      IfUnread why (IsFrontOfJob most bytes is text) (IsJob most bytes text why)
+  job_at : (why : Status) → EndsJob most old new was is stage why →
+      IfUnread why (IsPrefixOfJob most bytes is text) (IsJob most bytes text why)
   job_at why (inl ends) =
-      subst (λ end. IfUnread end (IsFrontOfJob most bytes is text) (IsJob most bytes text end))
+      subst (λ end. IfUnread end (IsPrefixOfJob most bytes is text) (IsJob most bytes text end))
       (sym ends.why_is)
       (unless_unread_clean old.number stage _ _
       (subst (IsJob most bytes text) ends.why_is (job_clean why ends)))
@@ -266,18 +266,18 @@ module _ (most : ℕ) (bytes was is text : List ℕ) (old new : Reading) (stage 
       (judged-stop most (suc old.number) stage ends.line.bytes why ends.refused_is)
       (job_refused why ends)
   job_at why (inr (inr (inr starved))) =
-      subst (λ end. IfUnread end (IsFrontOfJob most bytes is text) (IsJob most bytes text end))
+      subst (λ end. IfUnread end (IsPrefixOfJob most bytes is text) (IsJob most bytes text end))
       (sym starved) tt
   job_at why (inr (inr (inl ends))) =
-      subst (λ end. IfUnread end (IsFrontOfJob most bytes is text) (IsJob most bytes text end))
+      subst (λ end. IfUnread end (IsPrefixOfJob most bytes is text) (IsJob most bytes text end))
       (sym ends.why_is) (job_unread ends.stops at.whole)
 
 pub Running-ended : (most : ℕ) (left0 left left' written0 written written' : Option (List ℕ))
     (page page' : List ℕ) (old new : Reading) (stage : Stage) (t : ℕ) (why : Status) →
     PassesOn written page written' page' [] →
-    BothKnown left left' (λ was is. Ends most old new was is stage why) →
-    Running most left0 left written0 written page old stage t →
-    Ended most left0 left' written0 written' page' why
+    BothKnown left left' (λ was is. EndsJob most old new was is stage why) →
+    IsRunning most left0 left written0 written page old stage t →
+    HasEnded most left0 left' written0 written' page' why
 Running-ended most left0 left left' written0 written written' page page' old new stage t why passed
     ends running = record {
       text = running.text;
@@ -296,7 +296,7 @@ Running-ended most left0 left left' written0 written written' page page' old new
 front_with : (most : ℕ) (bytes was is text more : List ℕ) (old : Reading) (stage : Stage) (t : ℕ) →
     AtLine most bytes was text old stage t →
     Belongs most (old.held ++ was) old.number stage t more →
-    (rest : List ℕ) × (text_of (verdict most (lines_of bytes)) ≡ (text ++ more) ++ rest)
+    (rest : List ℕ) × (job_text (verdict most (lines_of bytes)) ≡ (text ++ more) ++ rest)
 front_with most bytes was is text more old stage t at (inl none) =
     let front = front_at most bytes was is text old old stage t at in (
       front.0,
@@ -307,9 +307,9 @@ front_with most bytes was is text more old stage t at (inr next) =
     let reached =
     reached_next most at.gone text more old.number t next.stamp_after stage next.stage_after
     next.line at.reached (inr next.accepts) in (
-      text_behind next.stage_after next.stamp_after
-          (judge most (suc old.number) next.stage_after next.others),
-      ap (λ lines. text_of (verdict most lines))
+      text_from_stage next.stage_after next.stamp_after
+          (verdict_from most (suc old.number) next.stage_after next.others),
+      ap (λ lines. job_text (verdict most lines))
           (at.lines ∙ ap (λ lines. at.gone ++ lines) next.follows
           ∙ sym (append_assoc at.gone (next.line ∷ []) next.others))
           ∙ reached.whole_text next.others,
@@ -317,37 +317,37 @@ front_with most bytes was is text more old stage t at (inr next) =
 
 pub Running-fails : (most : ℕ) (left0 left left' written0 written written' : Option (List ℕ))
     (page more : List ℕ) (old : Reading) (stage : Stage) (t : ℕ) →
-    AppendsFront written written' (page ++ more) →
+    AppendsPrefix written written' (page ++ more) →
     BothKnown left left' (λ was is. Belongs most (old.held ++ was) old.number stage t more) →
-    Running most left0 left written0 written page old stage t →
-    WritesFront most left0 left' written0 written'
+    IsRunning most left0 left written0 written page old stage t →
+    WritesPrefix most left0 left' written0 written'
 Running-fails most left0 left left' written0 written written' page more old stage t front belongs
     running =
     BothKnown-then _ _ _ left0 left left' running.known belongs (λ bytes was is at next.
     let rest = front_with most bytes was is running.text more old stage t at next in
-    subst (AppendsFront written0 written') (sym rest.1)
+    subst (AppendsPrefix written0 written') (sym rest.1)
     (AppendsFront-more rest.0 (AppendsFront-then more running.passed front)))
 
 -- all of what was passed on and held is written
 all_written : (most : ℕ) (left0 left' written0 written written' : Option (List ℕ)) (page : List ℕ)
     (why : Status) → Appends written written' page →
-    (ended : Ended most left0 left' written0 written page why) →
-    Appends written0 written' ended.text
-all_written most left0 left' written0 written written' page why sent ended =
-    subst (Appends written0 written') ended.passed.rest
-    (Appends-then written0 written written' ended.passed.sent page ended.passed.written sent)
+    (verdict_at_end : HasEnded most left0 left' written0 written page why) →
+    Appends written0 written' verdict_at_end.text
+all_written most left0 left' written0 written written' page why sent verdict_at_end =
+    subst (Appends written0 written') verdict_at_end.passed.rest
+    (Appends-then written0 written written' verdict_at_end.passed.sent page verdict_at_end.passed.written sent)
 
 mines_with : (most : ℕ) (left0 left written0 written : Option (List ℕ)) (text : List ℕ)
     (why : Status) → IsEnd why → Appends written0 written text →
-    BothKnown left0 left (λ bytes is. IsFrontOfText most bytes text) →
+    BothKnown left0 left (λ bytes is. IsPrefixOfText most bytes text) →
     BothKnown left0 left (λ bytes is.
-    IfUnread why (IsFrontOfJob most bytes is text) (IsJob most bytes text why)) →
+    IfUnread why (IsPrefixOfJob most bytes is text) (IsJob most bytes text why)) →
     Mines most left0 left written0 written why
 mines_with most left0 left written0 written text status.Ok end out front job =
     BothKnown-map _ _ left0 left job (λ bytes is so. (text, so, out))
 mines_with most left0 left written0 written text status.NoMemory end out front job =
     BothKnown-map _ _ left0 left front (λ bytes is rest.
-    subst (AppendsFront written0 written) (sym rest.1) (record {
+    subst (AppendsPrefix written0 written) (sym rest.1) (record {
       len = length text;
       written = subst (Appends written0 written) (sym (take-append_seam text rest.0)) out;
     }))
@@ -365,34 +365,34 @@ mines_with most left0 left written0 written text status.WriteFault end out front
 -- the page is sent at the end
 pub Ended-sent : (most : ℕ) (left0 left' written0 written written' : Option (List ℕ))
     (page : List ℕ) (why : Status) → IsEnd why → Appends written written' page →
-    Ended most left0 left' written0 written page why → Mines most left0 left' written0 written' why
-Ended-sent most left0 left' written0 written written' page why end sent ended =
-    let text = ended.text in
+    HasEnded most left0 left' written0 written page why → Mines most left0 left' written0 written' why
+Ended-sent most left0 left' written0 written written' page why end sent verdict_at_end =
+    let text = verdict_at_end.text in
     mines_with most left0 left' written0 written' text why end
-    (all_written most left0 left' written0 written written' page why sent ended) ended.front ended.job
+    (all_written most left0 left' written0 written written' page why sent verdict_at_end) verdict_at_end.front verdict_at_end.job
 
 -- the page could not be sent at the end
 pub Ended-fails : (most : ℕ) (left0 left' written0 written written' : Option (List ℕ))
-    (page : List ℕ) (why : Status) → AppendsFront written written' page →
-    Ended most left0 left' written0 written page why →
-    WritesFront most left0 left' written0 written'
-Ended-fails most left0 left' written0 written written' page why sent ended =
-    let front : AppendsFront written0 written' (ended.text ++ []) =
-    AppendsFront-then [] ended.passed (AppendsFront-more [] sent) in
-    let so : AppendsFront written0 written' ended.text =
-    subst (AppendsFront written0 written') (append-nil ended.text) front in
-    BothKnown-map _ _ left0 left' ended.front
-    (λ bytes is rest. subst (AppendsFront written0 written') (sym rest.1)
+    (page : List ℕ) (why : Status) → AppendsPrefix written written' page →
+    HasEnded most left0 left' written0 written page why →
+    WritesPrefix most left0 left' written0 written'
+Ended-fails most left0 left' written0 written written' page why sent verdict_at_end =
+    let front : AppendsPrefix written0 written' (verdict_at_end.text ++ []) =
+    AppendsFront-then [] verdict_at_end.passed (AppendsFront-more [] sent) in
+    let so : AppendsPrefix written0 written' verdict_at_end.text =
+    subst (AppendsPrefix written0 written') (append-nil verdict_at_end.text) front in
+    BothKnown-map _ _ left0 left' verdict_at_end.front
+    (λ bytes is rest. subst (AppendsPrefix written0 written') (sym rest.1)
     (AppendsFront-more rest.0 so))
 
 -- a run that wants memory before its first line
 pub Ended-unbegun : (most : ℕ) (left written : Option (List ℕ)) (page : List ℕ) → page ≡ [] →
-    Ended most left left written written page status.NoMemory
+    HasEnded most left left written written page status.NoMemory
 Ended-unbegun most left written page nothing =
-    subst (λ page. Ended most left left written written page status.NoMemory) (sym nothing)
+    subst (λ page. HasEnded most left left written written page status.NoMemory) (sym nothing)
     (record {
       text = [];
       passed = PassesOn-start written [];
-      front = BothKnown-same _ left (λ bytes. (text_of (verdict most (lines_of bytes)), refl));
+      front = BothKnown-same _ left (λ bytes. (job_text (verdict most (lines_of bytes)), refl));
       job = BothKnown-same _ left (λ bytes. tt);
     })

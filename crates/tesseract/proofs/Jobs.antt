@@ -14,9 +14,9 @@ use Rattle.job_io.specs.meaning.Lines.{Line, without_cr, most_line_bytes}
 use Rattle.mining_model.specs.meaning.Embeddings.{Pattern, embeddings}
 use Rattle.mining_model.specs.meaning.Step.{Refusal, step, snapshot}
 use Rattle.record_text.specs.meaning.Text.{text_upto}
-use Rattle.line_fields.specs.meaning.Names.{Names, interned, no_name}
-use Rattle.update_reader.specs.meaning.Grammar.{Said, nothing, commit, update, too_many_labels, bad_line, said, said_by, said_labelled}
-use Rattle.update_reader.specs.meaning.Grammar.{Form, commit_form, unlabelled, labelled, no_form, form_with, form_behind, form_of}
+use Rattle.line_fields.specs.meaning.Names.{Names, interning, no_name}
+use Rattle.update_reader.specs.meaning.Grammar.{LineContent, nothing, commit, update, too_many_labels, bad_line, content_of_line, content_of_form, content_of_labelled}
+use Rattle.update_reader.specs.meaning.Grammar.{Form, commit_form, unlabelled, labelled, no_form, form_with, form_after_keyword, form_of}
 use Rattle.update_reader.specs.meaning.Grammar.{ids_of, keyword_of, unlabelled_form, labelled_form, vertex_form, edge_form}
 use Rattle.update_reader.specs.declared.keyword.Keyword.{Keyword}
 use Rattle.update_reader.specs.declared.keyword.Keyword.TheVariants as keyword
@@ -24,9 +24,9 @@ use Rattle.snapshot_fold.specs.meaning.FoldText.{fold_text}
 use Rattle.snapshot_fold.specs.meaning.Records.{AddsShortId, pieces_of}
 use Rattle.snapshot_fold.proofs.Telling.{fold_text-upto}
 use Rattle.program_grammar.specs.meaning.Grammar.{◌>>=◌}
-use Rattle.program_grammar.specs.meaning.Header.{header_said, mode_of, size_of, size_said, size_in_range, in_range, value_of, filter_of}
-use Rattle.program_grammar.specs.meaning.Header.{condition_behind, is_word}
-use Rattle.program_grammar.specs.meaning.Header.{said_by as header_said_by}
+use Rattle.program_grammar.specs.meaning.Header.{header_said, mode_said, size_of, size_said, size_in_range, in_range, value_of, filter_of}
+use Rattle.program_grammar.specs.meaning.Header.{condition_after_word, is_word}
+use Rattle.program_grammar.specs.meaning.Header.{awaited_line_said as header_said_by}
 use Rattle.program_grammar.specs.meaning.Sizes.{size_in}
 use Rattle.program_grammar.specs.declared.fault.Refusal.{Refusal as HeaderRefusal}
 use Rattle.program_grammar.specs.declared.header.HeaderReader.{HeaderReader}
@@ -34,9 +34,9 @@ use Rattle.program_grammar.specs.declared.header.HeaderReader.TheVariants as hea
 use Rattle.program_grammar.specs.declared.header.HeaderStep.{HeaderStep}
 use Rattle.program_grammar.specs.declared.header.HeaderStep.TheVariants.{More, Ready}
 use Rattle.tesseract.specs.declared.status.Status.{Status}
-use Rattle.tesseract.specs.meaning.Job.{Stage, heading, streaming, first_stage, Judged, refused, moved, accepted}
-use Rattle.tesseract.specs.meaning.Job.{judged_header, judged_step, judged_said, judged_line, judged}
-use Rattle.tesseract.specs.meaning.Job.{Verdict, ended, led_on, judge, verdict, text_of, text_under}
+use Rattle.tesseract.specs.meaning.Job.{Stage, heading, streaming, first_stage, Judgement, refused, moved, accepted}
+use Rattle.tesseract.specs.meaning.Job.{header_judgement, step_judgement, content_judgement, line_judgement, judgement}
+use Rattle.tesseract.specs.meaning.Job.{Verdict, verdict_at_end, verdict_after, verdict_from, verdict, job_text, text_under}
 use Rattle.tesseract.proofs.Making.{embeddings-empty}
 
 -- ---- the ids of vertices that are added
@@ -54,7 +54,7 @@ FormIsShort (labelled make label) = (l : ℕ) → AddsShortId (make l)
 FormIsShort form = Unit {0}
 
 -- the update that a line says
-abbrev SaidIsShort : Said → Type 0
+abbrev SaidIsShort : LineContent → Type 0
 SaidIsShort (update u later) = AddsShortId u
 SaidIsShort what = Unit {0}
 
@@ -107,7 +107,7 @@ form_short keyword.LabelEdge (from ∷ to ∷ label ∷ []) = edge_short (λ x y
 form_short keyword.Commit [] = tt
 form_short word fields = tt
 
-behind_short : (word : Option Keyword) (fields : List (List ℕ)) → FormIsShort (form_behind word fields)
+behind_short : (word : Option Keyword) (fields : List (List ℕ)) → FormIsShort (form_after_keyword word fields)
 behind_short None fields = tt
 behind_short (Some word) fields = form_short word fields
 
@@ -116,19 +116,19 @@ words_short [] = tt
 words_short (word ∷ fields) = behind_short (keyword_of word) fields
 
 numbered_short : (make : ℕ → Update) (number : Option (ℕ × Names)) → ((l : ℕ) → AddsShortId (make l)) →
-    SaidIsShort (said_labelled make number)
+    SaidIsShort (content_of_labelled make number)
 numbered_short make None short = tt
 numbered_short make (Some with_number) short = short with_number.0
 
-by_short : (names : Names) (form : Form) → FormIsShort form → SaidIsShort (said_by names form)
+by_short : (names : Names) (form : Form) → FormIsShort form → SaidIsShort (content_of_form names form)
 by_short names commit_form short = tt
 by_short names (unlabelled u) short = short
-by_short names (labelled make label) short = numbered_short make (interned names label) short
+by_short names (labelled make label) short = numbered_short make (interning names label) short
 by_short names no_form short = tt
 
-said_short : (names : Names) (line : List ℕ) → SaidIsShort (said names line)
+said_short : (names : Names) (line : List ℕ) → SaidIsShort (content_of_line names line)
 said_short names line =
-    cond_both (is_nothing_line line) nothing (said_by names (form_of (words_of line))) SaidIsShort (λ _. tt)
+    cond_both (is_nothing_line line) nothing (content_of_form names (form_of (words_of line))) SaidIsShort (λ _. tt)
     (λ _. by_short names (form_of (words_of line)) (words_short (words_of line)))
 
 -- ---- the size of the program
@@ -185,14 +185,14 @@ by_small : (h : HeaderReader) (line : List ℕ) (names : Names) → HeaderIsSmal
     StepIsSmall (header_said_by h line names)
 unfolding header_said_by
 by_small header.Mode line names small =
-    any_small (λ m. Ok (More (header.Size m), names)) (mode_of (words_of line)) (λ m. tt)
+    any_small (λ m. Ok (More (header.Size m), names)) (mode_said (words_of line)) (λ m. tt)
 by_small (header.Size m) line names small =
     then_small (λ n. Ok (More (header.Filter m n), names)) (λ n. n ≤ most_members) (size_of (words_of line))
     (size_small (words_of line)) (λ n few. few)
 by_small (header.Filter m n) line names small =
     any_small (λ f. Ok (More (header.Match n f.0), f.1)) (filter_of m line names) (λ f. small)
 by_small (header.Match n f) line names small =
-    any_small (λ c. Ok (More (header.Begin n f c.0), c.1)) (condition_behind (codes "match") line names) (λ c. small)
+    any_small (λ c. Ok (More (header.Begin n f c.0), c.1)) (condition_after_word (codes "match") line names) (λ c. small)
 by_small (header.Begin n f c) line names small =
     cond_both (is_word (codes "begin") (words_of line)) _ _ StepIsSmall (λ _. small) (λ _. tt)
 
@@ -206,39 +206,39 @@ header_small h line names small =
 -- ---- a line
 
 -- what line n leads to, where at most `most` lines are allowed
-abbrev LineIsFine : ℕ → ℕ → Judged → Type 0
+abbrev LineIsFine : ℕ → ℕ → Judgement → Type 0
 LineIsFine most n (refused why) = Unit {0}
 LineIsFine most n (moved next) = StageIsSmall next
 LineIsFine most n (accepted u pattern names g) = (n ≤ most) × AddsShortId u × (pattern.size ≤ most_members)
 
 module _ (most n : ℕ) where
   header_fine : (step : Result (HeaderStep × Names) HeaderRefusal) → StepIsSmall step →
-      LineIsFine most n (judged_header n step)
+      LineIsFine most n (header_judgement n step)
   header_fine (Ok (More next, names)) small = small
   header_fine (Ok (Ready program, names)) small = small
   header_fine (Err refusal) small = tt
 
   module _ (below : n ≤ most) where
     step_fine : (pattern : Pattern) (names : Names) (u : Update) (stepped : Result Graph Refusal) →
-        pattern.size ≤ most_members → AddsShortId u → LineIsFine most n (judged_step n pattern names u stepped)
+        pattern.size ≤ most_members → AddsShortId u → LineIsFine most n (step_judgement n pattern names u stepped)
     step_fine pattern names u (Ok now) small short = (below, short, small)
     step_fine pattern names u (Err refusal) small short = tt
 
-    said_fine : (pattern : Pattern) (names : Names) (g : Graph) (line : Said) → pattern.size ≤ most_members →
-        SaidIsShort line → LineIsFine most n (judged_said n pattern names g line)
+    said_fine : (pattern : Pattern) (names : Names) (g : Graph) (line : LineContent) → pattern.size ≤ most_members →
+        SaidIsShort line → LineIsFine most n (content_judgement n pattern names g line)
     said_fine pattern names g nothing small short = small
     said_fine pattern names g commit small short = small
     said_fine pattern names g (update u later) small short = step_fine pattern later u (step g u) small short
     said_fine pattern names g too_many_labels small short = tt
     said_fine pattern names g bad_line small short = tt
 
-    line_fine : (stage : Stage) (bytes : List ℕ) → StageIsSmall stage → LineIsFine most n (judged_line n stage bytes)
+    line_fine : (stage : Stage) (bytes : List ℕ) → StageIsSmall stage → LineIsFine most n (line_judgement n stage bytes)
     line_fine (heading next names) bytes small =
         header_fine (header_said next (without_cr bytes) names) (header_small next (without_cr bytes) names small)
     line_fine (streaming pattern names g) bytes small =
-        said_fine pattern names g (said names (without_cr bytes)) small (said_short names (without_cr bytes))
+        said_fine pattern names g (content_of_line names (without_cr bytes)) small (said_short names (without_cr bytes))
 
-  fine : (stage : Stage) (bytes : List ℕ) → StageIsSmall stage → LineIsFine most n (judged most n stage bytes)
+  fine : (stage : Stage) (bytes : List ℕ) → StageIsSmall stage → LineIsFine most n (judgement most n stage bytes)
   fine stage bytes small =
       cond_both (nat_lt most n) _ _ (LineIsFine most n) (λ _. tt)
       (λ within. cond_both (nat_lt most_line_bytes (length bytes)) _ _ (LineIsFine most n) (λ _. tt)
@@ -253,15 +253,15 @@ record JobIsFine (most : ℕ) (v : Verdict) : Type 0 where
   short : All AddsShortId v.updates
 
 ended_fine : (most n : ℕ) (stage : Stage) (stop : Option Status) → StageIsSmall stage →
-    JobIsFine most (ended n stage stop)
+    JobIsFine most (verdict_at_end n stage stop)
 ended_fine most n (heading next names) stop small =
     record { small = tt; few = omega arith; short = All-nil AddsShortId }
 ended_fine most n (streaming pattern names g) stop small =
     record { small = small; few = omega arith; short = All-nil AddsShortId }
 
-led_fine : (most n : ℕ) (stage : Stage) (j : Judged) (rest : Stage → Verdict) → StageIsSmall stage →
+led_fine : (most n : ℕ) (stage : Stage) (j : Judgement) (rest : Stage → Verdict) → StageIsSmall stage →
     LineIsFine most (suc n) j → ((next : Stage) → StageIsSmall next → JobIsFine (most - suc n) (rest next)) →
-    JobIsFine (most - n) (led_on n stage j rest)
+    JobIsFine (most - n) (verdict_after n stage j rest)
 led_fine most n stage (refused why) rest small line_is rest_is = ended_fine (most - n) n stage (Some why) small
 led_fine most n stage (moved next) rest small line_is rest_is =
     let job = rest_is next line_is in
@@ -275,10 +275,10 @@ led_fine most n stage (accepted u pattern names g) rest small line_is rest_is =
     }
 
 judge_fine : (most n : ℕ) (stage : Stage) (lines : List Line) → StageIsSmall stage →
-    JobIsFine (most - n) (judge most n stage lines)
+    JobIsFine (most - n) (verdict_from most n stage lines)
 judge_fine most n stage [] small = ended_fine (most - n) n stage None small
 judge_fine most n stage (line ∷ lines) small =
-    led_fine most n stage (judged most (suc n) stage line.bytes) (λ next. judge most (suc n) next lines) small
+    led_fine most n stage (judgement most (suc n) stage line.bytes) (λ next. verdict_from most (suc n) next lines) small
     (fine most (suc n) stage line.bytes small) (λ next still. judge_fine most (suc n) next lines still)
 
 -- ---- its records
@@ -294,7 +294,7 @@ fold_text-all pattern us (suc t) small short fits within =
 
 pub fold_text-job : (most : ℕ) (lines : List Line) (pattern : Pattern) (t : ℕ) → most ≤ 10 ^ 19 →
     (verdict most lines).pattern ≡ Some pattern → t ≤ length (verdict most lines).updates →
-    fold_text (text_of (verdict most lines)) t
+    fold_text (job_text (verdict most lines)) t
     ≡ Some (pieces_of pattern.mode (embeddings pattern (snapshot (verdict most lines).updates t)))
 fold_text-job most lines pattern t limit is within =
     let job = judge_fine most 0 first_stage lines tt in

@@ -6,7 +6,7 @@ use Rattle.job_io.specs.meaning.Lines.{Line, lines_of}
 use Rattle.mining_model.specs.meaning.Embeddings.{Pattern}
 use Rattle.record_text.specs.meaning.Text.{step_text}
 use Rattle.line_fields.specs.meaning.Names.{Names}
-use Rattle.tesseract.specs.meaning.Job.{Stage, heading, streaming, moved, accepted, judged}
+use Rattle.tesseract.specs.meaning.Job.{Stage, heading, streaming, moved, accepted, judgement}
 
 -- Line n of the stream is an update that is accepted; `text` is its timestamp's.
 pub record Accepts (most n : ℕ) (stage : Stage) (t : ℕ) (bytes : List ℕ)
@@ -19,7 +19,7 @@ pub record Accepts (most n : ℕ) (stage : Stage) (t : ℕ) (bytes : List ℕ)
   pub now : Graph
   pub stage_is : stage ≡ streaming pattern names before
   pub next_is : next ≡ streaming pattern later now
-  pub accepted_is : judged most n stage bytes ≡ accepted update pattern later now
+  pub accepted_is : judgement most n stage bytes ≡ accepted update pattern later now
   pub stamp_is : u ≡ suc t
   pub text_is : text ≡ step_text pattern before now (suc t)
 
@@ -31,7 +31,7 @@ IsStampOf (streaming pattern names g) t = Unit {0}
 -- Line n leads on, and takes no timestamp.
 pub record Moves (most n : ℕ) (stage : Stage) (t : ℕ) (bytes : List ℕ)
     (next : Stage) (u : ℕ) (text : List ℕ) : Type 0 where
-  pub moved_is : judged most n stage bytes ≡ moved next
+  pub moved_is : judgement most n stage bytes ≡ moved next
   pub stamp_of_stage : IsStampOf stage t
   pub same_stamp : u ≡ t
   pub no_text : text ≡ []

@@ -13,10 +13,10 @@ use Rattle.graph_types.specs.declared.member.Member.TheVariants as member
 use Rattle.graph_types.specs.declared.update.Update.{Update}
 use Rattle.mining_model.specs.meaning.Step.{step}
 use Rattle.mining_model.specs.meaning.Embeddings.{Pattern, embeddings, members_of, short_lists, is_embedding}
-use Rattle.mining_model.specs.meaning.Changes.{without}
+use Rattle.mining_model.specs.meaning.Changes.{difference}
 use Rattle.filter_polarity.specs.meaning.Program.{ProgramValue}
 use Rattle.cond_eval.specs.meaning.Patterns.{pattern_of}
-use Rattle.tesseract.specs.storage.Mining.{Mining}
+use Rattle.tesseract.specs.storage.Mining.{MiningState}
 use Rattle.tesseract.specs.calls.Miner.{IsMade}
 
 no_items : {A : Type 0} (xs : List A) → length xs ≡ 0 → xs ≡ []
@@ -44,13 +44,13 @@ embeddings-empty pattern =
     ∙ ap (filter (is_embedding pattern empty_graph)) (short_lists-nil pattern.size)
 
 -- an update was made, and the pieces were listed anew
-pub IsMade-from : (old : Mining) (u : Update) (program : ProgramValue) (stamp : ℕ) (before now : Graph)
+pub IsMade-from : (old : MiningState) (u : Update) (program : ProgramValue) (stamp : ℕ) (before now : Graph)
     (stood stand rem add : List PieceValue) →
     record { program = program; graph = before; stamp = stamp } ≡ old → step before u ≡ Ok now →
     members_of_all stood ≡ embeddings (pattern_of program) before →
     members_of_all stand ≡ embeddings (pattern_of program) now →
-    members_of_all rem ≡ without (members_of_all stood) (members_of_all stand) →
-    members_of_all add ≡ without (members_of_all stand) (members_of_all stood) →
+    members_of_all rem ≡ difference (members_of_all stood) (members_of_all stand) →
+    members_of_all add ≡ difference (members_of_all stand) (members_of_all stood) →
     IsMade old u (record { program = program; graph = now; stamp = stamp + 1 })
     (record { rem = rem; add = add })
 IsMade-from old u program stamp before now stood stand rem add old_is stepped all_before all_now gone
@@ -61,9 +61,9 @@ IsMade-from old u program stamp before now stood stand rem add old_is stepped al
       same_program = refl;
       next_stamp = add-one stamp;
       rem =
-          gone ∙ ap (λ xs. without xs (members_of_all stand)) all_before
-          ∙ ap (λ ys. without (embeddings (pattern_of program) before) ys) all_now;
+          gone ∙ ap (λ xs. difference xs (members_of_all stand)) all_before
+          ∙ ap (λ ys. difference (embeddings (pattern_of program) before) ys) all_now;
       add =
-          come ∙ ap (λ xs. without xs (members_of_all stood)) all_now
-          ∙ ap (λ ys. without (embeddings (pattern_of program) now) ys) all_before;
+          come ∙ ap (λ xs. difference xs (members_of_all stood)) all_now
+          ∙ ap (λ ys. difference (embeddings (pattern_of program) now) ys) all_before;
     })

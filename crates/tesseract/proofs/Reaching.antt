@@ -6,8 +6,8 @@ use Rattle.graph_types.specs.meaning.Graph.{Graph, empty_graph}
 use Rattle.graph_types.specs.declared.update.Update.{Update}
 use Rattle.job_io.specs.meaning.Lines.{Line, without_cr, most_line_bytes}
 use Rattle.line_fields.specs.meaning.Names.{Names}
-use Rattle.update_reader.specs.meaning.Grammar.{Said, nothing, commit, update, too_many_labels, bad_line, said}
-use Rattle.mining_model.specs.meaning.Step.{Refusal, step, left_by, after}
+use Rattle.update_reader.specs.meaning.Grammar.{LineContent, nothing, commit, update, too_many_labels, bad_line, content_of_line}
+use Rattle.mining_model.specs.meaning.Step.{Refusal, step, graph_left_by, graph_after}
 use Rattle.mining_model.specs.meaning.Embeddings.{Pattern}
 use Rattle.record_text.specs.meaning.Text.{step_text, text_from}
 use Rattle.record_text.proofs.Texts.{text_from-start}
@@ -18,11 +18,11 @@ use Rattle.program_grammar.specs.declared.header.HeaderStep.TheVariants.{More, R
 use Rattle.program_grammar.specs.meaning.Header.{header_said}
 use Rattle.tesseract.specs.declared.status.Status.{Status}
 use Rattle.tesseract.specs.declared.status.Status.TheVariants as status
-use Rattle.tesseract.specs.meaning.Job.{Stage, heading, streaming, first_stage, Judged, refused, moved, accepted}
-use Rattle.tesseract.specs.meaning.Job.{judged_header, judged_step, judged_said, judged_line, judged}
-use Rattle.tesseract.specs.meaning.Job.{Verdict, ended, led_on, judge, verdict, text_of}
-use Rattle.tesseract.specs.meaning.Job.{text_under, end_of}
-use Rattle.tesseract.specs.calls.Progress.{text_behind, Reached}
+use Rattle.tesseract.specs.meaning.Job.{Stage, heading, streaming, first_stage, Judgement, refused, moved, accepted}
+use Rattle.tesseract.specs.meaning.Job.{header_judgement, step_judgement, content_judgement, line_judgement, judgement}
+use Rattle.tesseract.specs.meaning.Job.{Verdict, verdict_at_end, verdict_after, verdict_from, verdict, job_text}
+use Rattle.tesseract.specs.meaning.Job.{text_under, job_end}
+use Rattle.tesseract.specs.calls.Progress.{text_from_stage, HasReached}
 use Rattle.tesseract.proofs.Leading.{IsStampOf}
 
 -- what a refused line ends a job with
@@ -33,22 +33,22 @@ IsStop (status.Limit kind at) = Unit {0}
 IsStop why = ⊥
 
 -- what a line may lead to from a stage
-Follows : Stage → Judged → Type 0
+Follows : Stage → Judgement → Type 0
 Follows stage (refused why) = IsStop why
 Follows (heading next names) (moved (heading later more)) = Unit {0}
 Follows (heading next names) (moved (streaming pattern more g)) = g ≡ empty_graph
 Follows (heading next names) (accepted u pattern more g) = ⊥
 Follows (streaming pattern names g) (moved (heading next more)) = ⊥
 Follows (streaming pattern names g) (moved (streaming same later now)) = (same ≡ pattern) × (now ≡ g)
-Follows (streaming pattern names g) (accepted u same later now) = (same ≡ pattern) × (now ≡ after g u)
+Follows (streaming pattern names g) (accepted u same later now) = (same ≡ pattern) × (now ≡ graph_after g u)
 
-choice : (P : Judged → Type 0) (b : Bool) (x y : Judged) → P x → P y → P (cond b x y)
+choice : (P : Judgement → Type 0) (b : Bool) (x y : Judgement) → P x → P y → P (cond b x y)
 choice P true x y p q = p
 choice P false x y p q = q
 
 follows_header : (n : ℕ) (next : HeaderReader) (names : Names)
-    (said : Result (HeaderStep × Names) HeaderRefusal) →
-    Follows (heading next names) (judged_header n said)
+    (content_of_line : Result (HeaderStep × Names) HeaderRefusal) →
+    Follows (heading next names) (header_judgement n content_of_line)
 unfolding Follows
 follows_header n next names (Ok (More later, more)) = tt
 follows_header n next names (Ok (Ready program, more)) = refl
@@ -56,13 +56,13 @@ follows_header n next names (Err refusal) = tt
 
 follows_step : (n : ℕ) (pattern : Pattern) (names later : Names) (g : Graph) (u : Update)
     (stepped : Result Graph Refusal) → step g u ≡ stepped →
-    Follows (streaming pattern names g) (judged_step n pattern later u stepped)
+    Follows (streaming pattern names g) (step_judgement n pattern later u stepped)
 unfolding Follows
-follows_step n pattern names later g u (Ok now) is = (refl, sym (ap (left_by g) is))
+follows_step n pattern names later g u (Ok now) is = (refl, sym (ap (graph_left_by g) is))
 follows_step n pattern names later g u (Err refusal) is = tt
 
-follows_said : (n : ℕ) (pattern : Pattern) (names : Names) (g : Graph) (line : Said) →
-    Follows (streaming pattern names g) (judged_said n pattern names g line)
+follows_said : (n : ℕ) (pattern : Pattern) (names : Names) (g : Graph) (line : LineContent) →
+    Follows (streaming pattern names g) (content_judgement n pattern names g line)
 unfolding Follows
 follows_said n pattern names g nothing = (refl, refl)
 follows_said n pattern names g commit = (refl, refl)
@@ -70,23 +70,23 @@ follows_said n pattern names g (update u later) = follows_step n pattern names l
 follows_said n pattern names g too_many_labels = tt
 follows_said n pattern names g bad_line = tt
 
-follows_line : (n : ℕ) (stage : Stage) (bytes : List ℕ) → Follows stage (judged_line n stage bytes)
+follows_line : (n : ℕ) (stage : Stage) (bytes : List ℕ) → Follows stage (line_judgement n stage bytes)
 follows_line n (heading next names) bytes =
     follows_header n next names (header_said next (without_cr bytes) names)
 follows_line n (streaming pattern names g) bytes =
-    follows_said n pattern names g (said names (without_cr bytes))
+    follows_said n pattern names g (content_of_line names (without_cr bytes))
 
-follows : (most n : ℕ) (stage : Stage) (bytes : List ℕ) → Follows stage (judged most n stage bytes)
+follows : (most n : ℕ) (stage : Stage) (bytes : List ℕ) → Follows stage (judgement most n stage bytes)
 unfolding Follows
 follows most n stage bytes =
     choice (Follows stage) (nat_lt most n) _ _ tt
     (choice (Follows stage) (nat_lt most_line_bytes (length bytes)) _ _ tt (follows_line n stage bytes))
 
-led_pattern : (n : ℕ) (pattern : Pattern) (names : Names) (g : Graph) (j : Judged)
+led_pattern : (n : ℕ) (pattern : Pattern) (names : Names) (g : Graph) (j : Judgement)
     (rest : Stage → Verdict) →
     Follows (streaming pattern names g) j →
     ((later : Names) (now : Graph) → (rest (streaming pattern later now)).pattern ≡ Some pattern) →
-    (led_on n (streaming pattern names g) j rest).pattern ≡ Some pattern
+    (verdict_after n (streaming pattern names g) j rest).pattern ≡ Some pattern
 unfolding Follows
 led_pattern n pattern names g (refused why) rest f same = refl
 led_pattern n pattern names g (moved (heading next more)) rest f same = absurd f
@@ -97,65 +97,65 @@ led_pattern n pattern names g (accepted u other later now) rest f same =
 
 -- a verdict behind a stage of the stream has the stage's program
 streaming_pattern : (most n : ℕ) (pattern : Pattern) (names : Names) (g : Graph) (lines : List Line) →
-    (judge most n (streaming pattern names g) lines).pattern ≡ Some pattern
+    (verdict_from most n (streaming pattern names g) lines).pattern ≡ Some pattern
 streaming_pattern most n pattern names g [] = refl
 streaming_pattern most n pattern names g (line ∷ lines) =
-    led_pattern n pattern names g (judged most (suc n) (streaming pattern names g) line.bytes)
-    (λ next. judge most (suc n) next lines)
+    led_pattern n pattern names g (judgement most (suc n) (streaming pattern names g) line.bytes)
+    (λ next. verdict_from most (suc n) next lines)
     (follows most (suc n) (streaming pattern names g) line.bytes)
     (λ later now. streaming_pattern most (suc n) pattern later now lines)
 
 -- nothing was read yet
-pub Reached-start : (most : ℕ) → Reached most [] [] 0 0 first_stage
+pub Reached-start : (most : ℕ) → HasReached most [] [] 0 0 first_stage
 Reached-start most =
     record { whole_text = λ lines. refl; whole_end = λ lines. refl; whole_stop = λ lines. refl }
 
 module _ (most n : ℕ) (stage : Stage) (line : Line) where
   -- the verdict on a line and those behind it, by what the line does
-  judge-cons : (j : Judged) → judged most (suc n) stage line.bytes ≡ j → (lines : List Line) →
-      judge most n stage (line ∷ lines) ≡ led_on n stage j (λ next. judge most (suc n) next lines)
-  judge-cons j is lines = ap (λ j. led_on n stage j (λ next. judge most (suc n) next lines)) is
+  judge-cons : (j : Judgement) → judgement most (suc n) stage line.bytes ≡ j → (lines : List Line) →
+      verdict_from most n stage (line ∷ lines) ≡ verdict_after n stage j (λ next. verdict_from most (suc n) next lines)
+  judge-cons j is lines = ap (λ j. verdict_after n stage j (λ next. verdict_from most (suc n) next lines)) is
 
 -- a line leads on, and no timestamp comes of it
 text_behind-moved : (most n t : ℕ) (stage next : Stage) (lines : List Line) →
     Follows stage (moved next) → IsStampOf stage t →
-    text_behind stage t (judge most n next lines) ≡ text_behind next t (judge most n next lines)
+    text_from_stage stage t (verdict_from most n next lines) ≡ text_from_stage next t (verdict_from most n next lines)
 unfolding Follows
 text_behind-moved most n t (heading a these) (heading b those) lines f none = refl
 text_behind-moved most n t (heading a these) (streaming pattern names g) lines f none =
-    let v = judge most n (streaming pattern names g) lines in
+    let v = verdict_from most n (streaming pattern names g) lines in
     ap (λ p. text_under p v.updates) (streaming_pattern most n pattern names g lines)
     ∙ sym (text_from-start pattern v.updates)
     ∙ ap (λ h. text_from pattern h 0 v.updates) (sym f)
     ∙ ap (λ t. text_from pattern g t v.updates) (sym none)
 text_behind-moved most n t (streaming pattern names g) (heading b those) lines f none = absurd f
 text_behind-moved most n t (streaming pattern names g) (streaming same later now) lines f none =
-    let v = judge most n (streaming same later now) lines in
+    let v = verdict_from most n (streaming same later now) lines in
     ap (λ p. text_from p g t v.updates) (sym f.0) ∙ ap (λ h. text_from same h t v.updates) (sym f.1)
 
 module _ (most : ℕ) (gone : List Line) (text : List ℕ) (n t : ℕ) (stage : Stage) (line : Line)
-    (reached : Reached most gone text n t stage) where
+    (reached : HasReached most gone text n t stage) where
   -- the lines so far, this one, and those behind it
   regrouped : (lines : List Line) → (gone ++ line ∷ []) ++ lines ≡ gone ++ line ∷ lines
   regrouped lines = append_assoc gone (line ∷ []) lines
 
-  text_led : (j : Judged) → judged most (suc n) stage line.bytes ≡ j → (lines : List Line) →
-      text_of (verdict most ((gone ++ line ∷ []) ++ lines))
-      ≡ text ++ text_behind stage t (led_on n stage j (λ next. judge most (suc n) next lines))
+  text_led : (j : Judgement) → judgement most (suc n) stage line.bytes ≡ j → (lines : List Line) →
+      job_text (verdict most ((gone ++ line ∷ []) ++ lines))
+      ≡ text ++ text_from_stage stage t (verdict_after n stage j (λ next. verdict_from most (suc n) next lines))
   text_led j is lines =
-      ap (λ all. text_of (verdict most all)) (regrouped lines) ∙ reached.whole_text (line ∷ lines)
-      ∙ ap (λ v. text ++ text_behind stage t v) (judge-cons most n stage line j is lines)
+      ap (λ all. job_text (verdict most all)) (regrouped lines) ∙ reached.whole_text (line ∷ lines)
+      ∙ ap (λ v. text ++ text_from_stage stage t v) (judge-cons most n stage line j is lines)
 
-  end_led : (j : Judged) → judged most (suc n) stage line.bytes ≡ j → (lines : List Line) →
-      end_of (verdict most ((gone ++ line ∷ []) ++ lines))
-      ≡ end_of (led_on n stage j (λ next. judge most (suc n) next lines))
+  end_led : (j : Judgement) → judgement most (suc n) stage line.bytes ≡ j → (lines : List Line) →
+      job_end (verdict most ((gone ++ line ∷ []) ++ lines))
+      ≡ job_end (verdict_after n stage j (λ next. verdict_from most (suc n) next lines))
   end_led j is lines =
-      ap (λ all. end_of (verdict most all)) (regrouped lines) ∙ reached.whole_end (line ∷ lines)
-      ∙ ap end_of (judge-cons most n stage line j is lines)
+      ap (λ all. job_end (verdict most all)) (regrouped lines) ∙ reached.whole_end (line ∷ lines)
+      ∙ ap job_end (judge-cons most n stage line j is lines)
 
-  stop_led : (j : Judged) → judged most (suc n) stage line.bytes ≡ j → (lines : List Line) →
+  stop_led : (j : Judgement) → judgement most (suc n) stage line.bytes ≡ j → (lines : List Line) →
       (verdict most ((gone ++ line ∷ []) ++ lines)).stop
-      ≡ (led_on n stage j (λ next. judge most (suc n) next lines)).stop
+      ≡ (verdict_after n stage j (λ next. verdict_from most (suc n) next lines)).stop
   stop_led j is lines =
       ap (λ all. (verdict most all).stop) (regrouped lines) ∙ reached.whole_stop (line ∷ lines)
       ∙ ap (λ v. v.stop) (judge-cons most n stage line j is lines)
@@ -163,9 +163,9 @@ module _ (most : ℕ) (gone : List Line) (text : List ℕ) (n t : ℕ) (stage : 
 -- a line that leads on takes no timestamp
 pub Reached-moved : (most : ℕ) (gone : List Line) (text : List ℕ) (n t : ℕ) (stage next : Stage)
     (line : Line) →
-    Reached most gone text n t stage → IsStampOf stage t →
-    judged most (suc n) stage line.bytes ≡ moved next →
-    Reached most (gone ++ line ∷ []) text (suc n) t next
+    HasReached most gone text n t stage → IsStampOf stage t →
+    judgement most (suc n) stage line.bytes ≡ moved next →
+    HasReached most (gone ++ line ∷ []) text (suc n) t next
 Reached-moved most gone text n t stage next line reached stamp is = record {
   whole_text = λ lines.
       text_led most gone text n t stage line reached (moved next) is lines
@@ -182,16 +182,16 @@ unfolding Follows
 accepted-pattern pattern same names later g now u f = f.0
 
 accepted-graph : (pattern same : Pattern) (names later : Names) (g now : Graph) (u : Update) →
-    Follows (streaming pattern names g) (accepted u same later now) → now ≡ after g u
+    Follows (streaming pattern names g) (accepted u same later now) → now ≡ graph_after g u
 unfolding Follows
 accepted-graph pattern same names later g now u f = f.1
 
 -- an update that was accepted takes the next timestamp
 pub Reached-accepted : (most : ℕ) (gone : List Line) (text : List ℕ) (n t : ℕ)
     (pattern same : Pattern) (names later : Names) (g now : Graph) (u : Update) (line : Line) →
-    Reached most gone text n t (streaming pattern names g) →
-    judged most (suc n) (streaming pattern names g) line.bytes ≡ accepted u same later now →
-    Reached most (gone ++ line ∷ []) (text ++ step_text pattern g now (suc t)) (suc n) (suc t)
+    HasReached most gone text n t (streaming pattern names g) →
+    judgement most (suc n) (streaming pattern names g) line.bytes ≡ accepted u same later now →
+    HasReached most (gone ++ line ∷ []) (text ++ step_text pattern g now (suc t)) (suc n) (suc t)
     (streaming pattern later now)
 Reached-accepted most gone text n t pattern same names later g now u line reached is =
     let stage = streaming pattern names g in
@@ -201,7 +201,7 @@ Reached-accepted most gone text n t pattern same names later g now u line reache
     let graph_is = accepted-graph pattern same names later g now u follow in
     record {
       whole_text = λ lines.
-          let v = judge most (suc n) (streaming same later now) lines in
+          let v = verdict_from most (suc n) (streaming same later now) lines in
           text_led most gone text n t stage line reached (accepted u same later now) is lines
           ∙ ap
           (λ h. text ++ (step_text pattern g h (suc t) ++ text_from pattern h (suc t) v.updates))
@@ -210,57 +210,57 @@ Reached-accepted most gone text n t pattern same names later g now u line reache
           (text_from pattern now (suc t) v.updates))
           ∙ ap (λ q. (text ++ step_text pattern g now (suc t))
           ++ text_from pattern now (suc t)
-          (judge most (suc n) (streaming q later now) lines).updates)
+          (verdict_from most (suc n) (streaming q later now) lines).updates)
           pattern_is;
       whole_end =
           λ lines. end_led most gone text n t stage line reached (accepted u same later now) is lines
-          ∙ ap (λ q. end_of (judge most (suc n) (streaming q later now) lines)) pattern_is;
+          ∙ ap (λ q. job_end (verdict_from most (suc n) (streaming q later now) lines)) pattern_is;
       whole_stop =
           λ lines. stop_led most gone text n t stage line reached (accepted u same later now) is lines
-          ∙ ap (λ q. (judge most (suc n) (streaming q later now) lines).stop) pattern_is;
+          ∙ ap (λ q. (verdict_from most (suc n) (streaming q later now) lines).stop) pattern_is;
     }
 
 -- nothing is written for what is not read
 text_behind-ended : (stage : Stage) (t n : ℕ) (stop : Option Status) →
-    text_behind stage t (ended n stage stop) ≡ []
+    text_from_stage stage t (verdict_at_end n stage stop) ≡ []
 text_behind-ended (heading next names) t n stop = refl
 text_behind-ended (streaming pattern names g) t n stop = refl
 
-ended-end : (stage : Stage) (n : ℕ) (why : Status) → end_of (ended n stage (Some why)) ≡ why
+ended-end : (stage : Stage) (n : ℕ) (why : Status) → job_end (verdict_at_end n stage (Some why)) ≡ why
 ended-end (heading next names) n why = refl
 ended-end (streaming pattern names g) n why = refl
 
-ended-stop : (stage : Stage) (n : ℕ) (stop : Option Status) → (ended n stage stop).stop ≡ stop
+ended-stop : (stage : Stage) (n : ℕ) (stop : Option Status) → (verdict_at_end n stage stop).stop ≡ stop
 ended-stop (heading next names) n stop = refl
 ended-stop (streaming pattern names g) n stop = refl
 
 module _ (most : ℕ) (gone : List Line) (text : List ℕ) (n t : ℕ) (stage : Stage)
-    (reached : Reached most gone text n t stage) where
+    (reached : HasReached most gone text n t stage) where
   -- where a line is refused, the text so far is all
   pub Reached-refused_text : (line : Line) (lines : List Line) (why : Status) →
-      judged most (suc n) stage line.bytes ≡ refused why →
-      text_of (verdict most (gone ++ line ∷ lines)) ≡ text
+      judgement most (suc n) stage line.bytes ≡ refused why →
+      job_text (verdict most (gone ++ line ∷ lines)) ≡ text
   Reached-refused_text line lines why is =
       reached.whole_text (line ∷ lines)
-      ∙ ap (λ v. text ++ text_behind stage t v)
+      ∙ ap (λ v. text ++ text_from_stage stage t v)
       (judge-cons most n stage line (refused why) is lines)
       ∙ ap (λ more. text ++ more) (text_behind-ended stage t n (Some why)) ∙ append-nil text
 
   pub Reached-refused_end : (line : Line) (lines : List Line) (why : Status) →
-      judged most (suc n) stage line.bytes ≡ refused why →
-      end_of (verdict most (gone ++ line ∷ lines)) ≡ why
+      judgement most (suc n) stage line.bytes ≡ refused why →
+      job_end (verdict most (gone ++ line ∷ lines)) ≡ why
   Reached-refused_end line lines why is =
       reached.whole_end (line ∷ lines)
-      ∙ ap end_of (judge-cons most n stage line (refused why) is lines) ∙ ended-end stage n why
+      ∙ ap job_end (judge-cons most n stage line (refused why) is lines) ∙ ended-end stage n why
 
   -- where no line follows, the text so far is all
-  pub Reached-end_text : text_of (verdict most gone) ≡ text
+  pub Reached-end_text : job_text (verdict most gone) ≡ text
   Reached-end_text =
-      ap (λ all. text_of (verdict most all)) (sym (append-nil gone)) ∙ reached.whole_text []
+      ap (λ all. job_text (verdict most all)) (sym (append-nil gone)) ∙ reached.whole_text []
       ∙ ap (λ more. text ++ more) (text_behind-ended stage t n None) ∙ append-nil text
 
-  pub Reached-end : end_of (verdict most gone) ≡ end_of (ended n stage None)
-  Reached-end = ap (λ all. end_of (verdict most all)) (sym (append-nil gone)) ∙ reached.whole_end []
+  pub Reached-end : job_end (verdict most gone) ≡ job_end (verdict_at_end n stage None)
+  Reached-end = ap (λ all. job_end (verdict most all)) (sym (append-nil gone)) ∙ reached.whole_end []
 
   pub Reached-no_stop : (verdict most gone).stop ≡ None
   Reached-no_stop =
@@ -269,6 +269,6 @@ module _ (most : ℕ) (gone : List Line) (text : List ℕ) (n t : ℕ) (stage : 
 
 -- a line that is refused ends the job with a refusal
 pub judged-stop : (most n : ℕ) (stage : Stage) (bytes : List ℕ) (why : Status) →
-    judged most n stage bytes ≡ refused why → IsStop why
+    judgement most n stage bytes ≡ refused why → IsStop why
 unfolding Follows
 judged-stop most n stage bytes why is = subst (Follows stage) is (follows most n stage bytes)

@@ -1,5 +1,5 @@
 ghost use Rattle.std.specs.Prelude.{◌≡◌, ◌≢◌, ◌≤◌, ◌^◌};
-ghost use Rattle.job_io.specs.calls.Ends.{HasCause, Puts, Rose};
+ghost use Rattle.job_io.specs.calls.Ends.{HasCause, Puts, HasRisen};
 ghost use Rattle.tesseract.specs.calls.Fold.{Folds, pieces_text, stop_status as stop_status_of};
 
 use crate::status::{InputKind, LimitKind, Status};
@@ -23,8 +23,8 @@ pub fn fold<S: Source, O: Sink>(
         (O.written out.old) (O.written out.new) result }
     ensures not_usage { result ≢ Status.Usage }
     ensures read_cause { result ≡ Status.ReadFault →
-        Rose (S.faults input.old) (S.faults input.new) }
-    ensures write_cause { result ≡ Status.WriteFault → Rose (O.faults out.old) (O.faults out.new) }
+        HasRisen (S.faults input.old) (S.faults input.new) }
+    ensures write_cause { result ≡ Status.WriteFault → HasRisen (O.faults out.old) (O.faults out.new) }
 {
     match fold_records(alloc, most, stamp(at), input) {
         Ok(pieces) => match write(out, &pieces) {

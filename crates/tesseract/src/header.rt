@@ -1,7 +1,7 @@
 ghost use Rattle.std.specs.Prelude.{◌≡◌, IfOk};
 ghost use Rattle.line_fields.specs.meaning.Names.{first_names};
-ghost use Rattle.program_grammar.specs.meaning.Header.{awaited};
-ghost use Rattle.tesseract.specs.calls.HeaderLine.{HeadsOn};
+ghost use Rattle.program_grammar.specs.meaning.Header.{awaited_word};
+ghost use Rattle.tesseract.specs.calls.HeaderLine.{TakesHeaderLine};
 
 use filter_polarity::Program;
 use graph_types::NoMemory;
@@ -52,14 +52,14 @@ impl Header {
 
     /// The first word that no line has begun with yet.
     pub fn missing(&self) -> Word
-        ensures { result ≡ awaited self.now.reader }
+        ensures { result ≡ awaited_word self.now.reader }
     {
         self.reader.missing()
     }
 
     /// Takes line `number`, whose CR was dropped.
     pub fn take(self, alloc: Global, number: u64, line: &[u8]) -> Result<HeaderTurn, ProgramFault>
-        ensures { HeadsOn number self line.now result }
+        ensures { TakesHeaderLine number self line.now result }
     {
         let Header { reader, mut names } = self;
         match reader.take(alloc, line, number, &mut names) {

@@ -1,7 +1,7 @@
 ghost use Rattle.std.specs.Prelude.{◌≡◌, ◌<◌, IfOk, None};
-ghost use Rattle.tesseract.specs.meaning.Job.{ended, end_of, first_stage};
-ghost use Rattle.tesseract.specs.calls.Reading.{header_stop, stage_of, stamp_of, StopsFor};
-ghost use Rattle.tesseract.specs.calls.Reading.{Takes, TakesHeader, TakesUpdate};
+ghost use Rattle.tesseract.specs.meaning.Job.{verdict_at_end, job_end, first_stage};
+ghost use Rattle.tesseract.specs.calls.Reading.{header_stop, stage_of, job_stamp, StopsFor};
+ghost use Rattle.tesseract.specs.calls.Reading.{TakesJobLine, TakesHeader, TakesUpdate};
 
 use crate::header::{Header, HeaderTurn};
 use crate::miner::{Changes, Miner};
@@ -34,14 +34,14 @@ impl Job {
     /// A job of which nothing was read.
     pub fn new(alloc: Global) -> Result<Job, NoMemory>
         ensures stage { IfOk result (λ job. stage_of job ≡ first_stage) }
-        ensures stamp { IfOk result (λ job. stamp_of job ≡ 0) }
+        ensures stamp { IfOk result (λ job. job_stamp job ≡ 0) }
     {
         Ok(Job::Heading(Header::new(alloc)?))
     }
 
     /// The last timestamp, or 0.
     pub fn stamp(&self) -> Stamp
-        ensures { result ≡ stamp_of self.now }
+        ensures { result ≡ job_stamp self.now }
     {
         match self {
             Job::Heading(_) => Stamp(0),
@@ -51,7 +51,7 @@ impl Job {
 
     /// How the job ends where `number` lines were all.
     pub fn end(&self, number: u64) -> Status
-        ensures { result ≡ end_of (ended number (stage_of self.now) None) }
+        ensures { result ≡ job_end (verdict_at_end number (stage_of self.now) None) }
     {
         match self {
             Job::Heading(header) => Status::BadProgram {
@@ -70,8 +70,8 @@ impl Job {
         number: u64,
         line: &[u8],
     ) -> Result<(Job, Option<Changes>), Stop>
-        requires { stamp_of self < number }
-        ensures { Takes number self line.now result }
+        requires { job_stamp self < number }
+        ensures { TakesJobLine number self line.now result }
     {
         let text = without_cr(line);
         match self {

@@ -6,7 +6,7 @@ ghost use Rattle.mining_model.specs.meaning.Embeddings.{Pattern, embeddings};
 ghost use Rattle.mining_model.specs.meaning.Step.{snapshot};
 ghost use Rattle.snapshot_fold.specs.meaning.FoldText.{fold_text};
 ghost use Rattle.snapshot_fold.specs.meaning.Records.{pieces_of};
-ghost use Rattle.tesseract.specs.meaning.Job.{verdict, text_of};
+ghost use Rattle.tesseract.specs.meaning.Job.{verdict, job_text};
 
 /// Folding what is written for a job up to any timestamp of it gives the embeddings of the snapshot there,
 /// each once and in their order.
@@ -14,6 +14,6 @@ pub fn records_tell_embeddings()
     ensures { (most : ℕ) (lines : List Line) (pattern : Pattern) (t : ℕ) →
         most ≤ 10 ^ 19 → (verdict most lines).pattern ≡ Some pattern →
         t ≤ length (verdict most lines).updates →
-        fold_text (text_of (verdict most lines)) t
+        fold_text (job_text (verdict most lines)) t
         ≡ Some (pieces_of pattern.mode (embeddings pattern (snapshot (verdict most lines).updates t))) }
 {}

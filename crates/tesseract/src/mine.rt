@@ -1,9 +1,9 @@
 ghost use Rattle.std.specs.Prelude.{◌≡◌, ◌≢◌, ◌≤◌, ◌^◌, ℕ, [], List, Option, Some, IsTrue, Ok, OnErr};
-ghost use Rattle.job_io.specs.calls.Ends.{Gathers, HasCause, Rose};
-ghost use Rattle.tesseract.specs.calls.Reading.{changes_text, stage_of, stamp_of};
+ghost use Rattle.job_io.specs.calls.Ends.{Gathers, HasCause, HasRisen};
+ghost use Rattle.tesseract.specs.calls.Reading.{changes_text, stage_of, job_stamp};
 ghost use Rattle.tesseract.specs.calls.Run.{Mines};
-ghost use Rattle.tesseract.specs.calls.Running.{Running};
-ghost use Rattle.tesseract.specs.calls.Turning.{Advances, GoesOn, Turns, Loops};
+ghost use Rattle.tesseract.specs.calls.Running.{IsRunning};
+ghost use Rattle.tesseract.specs.calls.Turning.{Advances, StandsAtNextAfter, Turns, MinesLines};
 
 use crate::job::{Job, Stop};
 use crate::miner::Changes;
@@ -28,8 +28,8 @@ pub fn mine<S: Source, O: Sink>(alloc: Global, most: u64, input: &mut S, out: &m
         (O.written out.old) (O.written out.new) result }
     ensures not_usage { result ≢ Status.Usage }
     ensures read_cause { result ≡ Status.ReadFault →
-        Rose (S.faults input.old) (S.faults input.new) }
-    ensures write_cause { result ≡ Status.WriteFault → Rose (O.faults out.old) (O.faults out.new) }
+        HasRisen (S.faults input.old) (S.faults input.new) }
+    ensures write_cause { result ≡ Status.WriteFault → HasRisen (O.faults out.old) (O.faults out.new) }
 {
     let mut page = Page::new();
     match mine_lines(alloc, most, &mut page, input, out) {
@@ -51,13 +51,13 @@ fn mine_lines<S: Source, O: Sink>(
 ) -> Result<Status, WriteFault>
     requires few { most ≤ 10 ^ 19 }
     requires fresh { page.old ≡ [] }
-    ensures mined { Loops most (S.left input.old) (S.left input.new)
+    ensures mined { MinesLines most (S.left input.old) (S.left input.new)
         (O.written out.old) (O.written out.new) page.new result }
     ensures reads { S.faults input.old ≤ S.faults input.new }
     ensures writes { O.faults out.old ≤ O.faults out.new }
     ensures read_cause { result ≡ Ok Status.ReadFault →
-        Rose (S.faults input.old) (S.faults input.new) }
-    ensures write_cause { OnErr result (Rose (O.faults out.old) (O.faults out.new)) }
+        HasRisen (S.faults input.old) (S.faults input.new) }
+    ensures write_cause { OnErr result (HasRisen (O.faults out.old) (O.faults out.new)) }
 {
     let Ok(mut reader) = LineReader::new(alloc, most) else {
         return Ok(Status::NoMemory);
@@ -83,18 +83,18 @@ fn take_line<S: Source, O: Sink>(
     out: &mut O,
 ) -> Result<Turn, WriteFault>
     requires live { IsTrue reader.old.live }
-    requires stamped { stamp_of job ≤ reader.old.number }
+    requires stamped { job_stamp job ≤ reader.old.number }
     ensures runs { (left0 written0 : Option (List ℕ)) →
-        Running reader.old.most left0 (S.left input.old) written0 (O.written out.old)
-        page.old reader.old (stage_of job) (stamp_of job) →
+        IsRunning reader.old.most left0 (S.left input.old) written0 (O.written out.old)
+        page.old reader.old (stage_of job) (job_stamp job) →
         Turns reader.old.most left0 (S.left input.new) written0 (O.written out.new)
         page.new reader.new result }
-    ensures goes { GoesOn reader.old reader.new result }
+    ensures goes { StandsAtNextAfter reader.old reader.new result }
     ensures reads { S.faults input.old ≤ S.faults input.new }
     ensures writes { O.faults out.old ≤ O.faults out.new }
     ensures read_cause { result ≡ Ok (Turn.End Status.ReadFault) →
-        Rose (S.faults input.old) (S.faults input.new) }
-    ensures write_cause { OnErr result (Rose (O.faults out.old) (O.faults out.new)) }
+        HasRisen (S.faults input.old) (S.faults input.new) }
+    ensures write_cause { OnErr result (HasRisen (O.faults out.old) (O.faults out.new)) }
 {
     send_before_wait(reader, page, out)?;
     if let Some(status) = advance(reader, &job, input) {
@@ -132,7 +132,7 @@ fn advance<S: Source>(reader: &mut LineReader, job: &Job, input: &mut S) -> Opti
         (S.left input.old) (S.left input.new) result }
     ensures reads { S.faults input.old ≤ S.faults input.new }
     ensures read_cause { result ≡ Some Status.ReadFault →
-        Rose (S.faults input.old) (S.faults input.new) }
+        HasRisen (S.faults input.old) (S.faults input.new) }
 {
     match reader.next(input) {
         Ok(true) => None,

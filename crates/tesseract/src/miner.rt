@@ -21,9 +21,9 @@ pub struct Miner {
 
 impl Model for Miner {
     ghost use Rattle.filter_polarity.specs.contracts.program.Program as programs;
-    ghost use Rattle.tesseract.specs.storage.Mining.{Mining, mining_code, IsMining};
+    ghost use Rattle.tesseract.specs.storage.Mining.{MiningState, mining_code, IsMining};
 
-    ghost Value = { Mining };
+    ghost Value = { MiningState };
 
     ghost coded = { mining_code programs.the_row.coded };
 

@@ -1,10 +1,10 @@
 ghost use Rattle.std.specs.Prelude.{◌≡◌, ◌↔◌, ℕ, IsTrue, None, Option, Some, map, string_bytes};
 ghost use Rattle.command_words.specs.meaning.Words.{command_of};
-ghost use Rattle.job_io.specs.calls.Ends.{Rose};
+ghost use Rattle.job_io.specs.calls.Ends.{HasRisen};
 ghost use Rattle.tesseract.specs.meaning.Commands.{fold_command, is_still as is_still_of, mine_command};
 ghost use Rattle.tesseract.specs.calls.Fold.{Folds};
 ghost use Rattle.tesseract.specs.calls.Run.{Mines, Tells};
-ghost use Rattle.tesseract.specs.meaning.Status.{line_of};
+ghost use Rattle.tesseract.specs.meaning.Status.{status_line};
 
 use crate::fold::fold;
 use crate::mine::mine;
@@ -48,12 +48,12 @@ pub fn run<R: Wait + Threads, S: Source, O: Sink, E: Sink, G: Gate>(
         Folds MOST_RECORD_LINES at (S.left input.old) (S.left input.new)
         (O.written out.old) (O.written out.new) result }
     ensures read_cause { result ≡ Status.ReadFault →
-        Rose (S.faults input.old) (S.faults input.new) }
-    ensures write_cause { result ≡ Status.WriteFault → Rose (O.faults out.old) (O.faults out.new) }
+        HasRisen (S.faults input.old) (S.faults input.new) }
+    ensures write_cause { result ≡ Status.WriteFault → HasRisen (O.faults out.old) (O.faults out.new) }
 
     // Standard error gets the line of the status.
     ensures told { Tells (E.written err.old) (E.written err.new)
-        (E.faults err.old) (E.faults err.new) (line_of result) }
+        (E.faults err.old) (E.faults err.new) (status_line result) }
 {
     if is_still(words) {
         return run_still(alloc, words, input, out, err);
@@ -81,10 +81,10 @@ pub fn run_still<S: Source, O: Sink, E: Sink>(
         Folds MOST_RECORD_LINES at (S.left input.old) (S.left input.new)
         (O.written out.old) (O.written out.new) result }
     ensures read_cause { result ≡ Status.ReadFault →
-        Rose (S.faults input.old) (S.faults input.new) }
-    ensures write_cause { result ≡ Status.WriteFault → Rose (O.faults out.old) (O.faults out.new) }
+        HasRisen (S.faults input.old) (S.faults input.new) }
+    ensures write_cause { result ≡ Status.WriteFault → HasRisen (O.faults out.old) (O.faults out.new) }
     ensures told { Tells (E.written err.old) (E.written err.new)
-        (E.faults err.old) (E.faults err.new) (line_of result) }
+        (E.faults err.old) (E.faults err.new) (status_line result) }
 {
     match read_words(alloc, words) {
         Ok(command) => tell(
@@ -118,7 +118,7 @@ fn words_status(fault: WordsFault) -> Status
 fn tell<E: Sink>(err: &mut E, status: Status) -> Status
     ensures same { result ≡ status }
     ensures told { Tells (E.written err.old) (E.written err.new)
-        (E.faults err.old) (E.faults err.new) (line_of status) }
+        (E.faults err.old) (E.faults err.new) (status_line status) }
 {
     let _ = put_all(err, status.line().as_slice());
     status

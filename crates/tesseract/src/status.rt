@@ -82,11 +82,11 @@ pub enum LimitKind {
 }
 
 impl Status {
-    ghost use Rattle.tesseract.specs.meaning.Status.{number_of, line_of};
+    ghost use Rattle.tesseract.specs.meaning.Status.{exit_number, status_line};
 
     /// The exit status of the program.
     pub fn number(&self) -> u8
-        ensures { result ≡ number_of self.now }
+        ensures { result ≡ exit_number self.now }
     {
         match self {
             Status::Ok => 0,
@@ -102,7 +102,7 @@ impl Status {
 
     /// The line that tells of it on standard error, with its LF; nothing where all went well.
     pub fn line(&self) -> ShortLine
-        ensures { result ≡ line_of self.now }
+        ensures { result ≡ status_line self.now }
     {
         match self {
             Status::Ok => ShortLine::new(),

@@ -5,8 +5,8 @@ use Rattle.update_reader.specs.declared.Item.{Item}
 use Rattle.update_reader.specs.declared.UpdateFault.{UpdateFault}
 use Rattle.update_reader.specs.declared.keyword.Keyword.{Keyword}
 use Rattle.line_fields.specs.meaning.Names.{Names}
-use Rattle.update_reader.specs.meaning.Grammar.{nothing, form_of, form_with, form_behind, keyword_of, said_by}
-use Rattle.update_reader.specs.calls.Reading.{Gives, Reads, ReadsForm}
+use Rattle.update_reader.specs.meaning.Grammar.{nothing, form_of, form_with, form_after_keyword, keyword_of, content_of_form}
+use Rattle.update_reader.specs.calls.Reading.{AnswersContent, ReadsLine, ReadsForm}
 
 pub three_words : (ws : List (List ℕ)) (a b c : List ℕ) → length ws ≡ 3 → Some a ≡ slice_get ws 0 → Some b ≡ slice_get ws 1 → Some c ≡ slice_get ws 2 → ws ≡ a ∷ b ∷ c ∷ []
 three_words [] a b c n f g h = absurd (omega arith)
@@ -29,10 +29,10 @@ four_words (x ∷ y ∷ z ∷ w ∷ v ∷ ws) a b c d n e f g h = absurd (omega 
 -- a line that says something is read by its keyword and the words behind that
 pub Reads-words : (old : Names) (line word : List ℕ) (fields : List (List ℕ)) (k : Keyword) (result : Result Item UpdateFault) (new : Names)
     → is_nothing_line line ≡ false → words_of line ≡ word ∷ fields → Some k ≡ keyword_of word → ReadsForm old (form_with k fields) result new
-    → Reads old line result new
+    → ReadsLine old line result new
 Reads-words old line word fields k result new quiet words keyword reads =
-    subst (λ s. Gives old s result new)
-    (sym (ap (λ t. cond t nothing (said_by old (form_of (words_of line)))) quiet
-    ∙ ap (λ ws. said_by old (form_of ws)) words
-    ∙ ap (λ k. said_by old (form_behind k fields)) (sym keyword)))
+    subst (λ s. AnswersContent old s result new)
+    (sym (ap (λ t. cond t nothing (content_of_form old (form_of (words_of line)))) quiet
+    ∙ ap (λ ws. content_of_form old (form_of ws)) words
+    ∙ ap (λ k. content_of_form old (form_after_keyword k fields)) (sym keyword)))
     reads

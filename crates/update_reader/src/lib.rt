@@ -4,7 +4,7 @@
 ghost use Rattle.std.specs.Prelude.{◌≡◌, ◌<◌, ℕ, List, [], ◌∷◌, Some, length, slice_get};
 ghost use Rattle.line_fields.specs.meaning.Fields.{words_of};
 ghost use Rattle.update_reader.specs.meaning.Grammar.{form_with, ids_of};
-ghost use Rattle.update_reader.specs.calls.Reading.{Reads, ReadsForm, ReadsLabel, ReadsVertex, ReadsEdge};
+ghost use Rattle.update_reader.specs.calls.Reading.{ReadsLine, ReadsForm, ReadsLabel, ReadsVertex, ReadsEdge};
 
 mod keyword;
 #[cfg(test)]
@@ -41,7 +41,7 @@ pub enum UpdateFault {
 /// its number once the whole line is found to be in form, and takes memory only where its name is new. A
 /// refused line leaves the names as they were.
 pub fn read_line(alloc: Global, line: &[u8], names: &mut Names) -> Result<Item, UpdateFault>
-    ensures { Reads names.old line.now result names.new }
+    ensures { ReadsLine names.old line.now result names.new }
 {
     if is_nothing(line) {
         return Ok(Item::Nothing);

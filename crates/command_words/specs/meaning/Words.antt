@@ -19,17 +19,17 @@ verb_of word =
     else None
 
 -- the command has an option of this name
-abbrev pub has : Verb → List ℕ → Bool
-has Mine name = false
-has Fold name = bytes_eq name (codes "at")
+abbrev pub has_option : Verb → List ℕ → Bool
+has_option Mine name = false
+has_option Fold name = bytes_eq name (codes "at")
 
 -- 1 to 10 digits with a value from `least` to `most`
 abbrev pub is_number_within : ℕ → ℕ → List ℕ → Bool
 is_number_within least most value = option_map_or (λ n. nat_le least n && nat_le n most) (number_of 10 value) false
 
 -- the option of this name takes this value
-abbrev pub takes : List ℕ → List ℕ → Bool
-takes name value =
+abbrev pub takes_value : List ℕ → List ℕ → Bool
+takes_value name value =
     if bytes_eq name (codes "at") then is_number_within 0 4000000000 value
     else false
 
@@ -40,8 +40,8 @@ pub record Setting : Type 0 where
   pub name : List ℕ
   pub value : List ℕ
 
-abbrev pub setting : List ℕ → List ℕ → Setting
-setting name value = record { name = name; value = value }
+abbrev pub setting_of : List ℕ → List ℕ → Setting
+setting_of name value = record { name = name; value = value }
 
 abbrev pub is_dash : ℕ → Bool
 is_dash b = eqb b 45
@@ -50,29 +50,29 @@ abbrev pub is_equals : ℕ → Bool
 is_equals b = eqb b 61
 
 -- what stands behind `--`
-abbrev pub behind_dashes : List ℕ → Option (List ℕ)
-behind_dashes (a ∷ b ∷ text) = if is_dash a && is_dash b then Some text else None
-behind_dashes word = None
+abbrev pub after_dashes : List ℕ → Option (List ℕ)
+after_dashes (a ∷ b ∷ text) = if is_dash a && is_dash b then Some text else None
+after_dashes word = None
 
 -- the first `=` parts a name from its value
-abbrev pub parted : List ℕ → Option Setting
-parted text = option_map (λ i. setting (take i text) (drop (i + 1) text)) (position is_equals text)
+abbrev pub setting_of_text : List ℕ → Option Setting
+setting_of_text text = option_map (λ i. setting_of (take i text) (drop (i + 1) text)) (position is_equals text)
 
 -- `--name=value`
-abbrev pub one_word : List ℕ → Option Setting
-one_word word = option_and_then parted (behind_dashes word)
+abbrev pub one_word_setting : List ℕ → Option Setting
+one_word_setting word = option_and_then setting_of_text (after_dashes word)
 
 -- `--name` and the next word, whatever that begins with
-abbrev pub two_words : List ℕ → List ℕ → Option Setting
-two_words word next = option_map (λ name. setting name next) (behind_dashes word)
+abbrev pub two_word_setting : List ℕ → List ℕ → Option Setting
+two_word_setting word next = option_map (λ name. setting_of name next) (after_dashes word)
 
 -- the settings that some words are, where each word belongs to one
 abbrev pub settings_of : List (List ℕ) → Option (List Setting)
 settings_of [] = Some []
-settings_of (word ∷ []) = option_map (λ s. s ∷ []) (one_word word)
-settings_of (word ∷ next ∷ words) = elim (one_word word) [
+settings_of (word ∷ []) = option_map (λ s. s ∷ []) (one_word_setting word)
+settings_of (word ∷ next ∷ words) = elim (one_word_setting word) [
   | Some s ↦ option_map (λ more. s ∷ more) (settings_of (next ∷ words))
-  | None ↦ option_and_then (λ s. option_map (λ more. s ∷ more) (settings_of words)) (two_words word next)
+  | None ↦ option_and_then (λ s. option_map (λ more. s ∷ more) (settings_of words)) (two_word_setting word next)
 ]
 
 -- ---- what they say
@@ -83,12 +83,12 @@ value_named name [] = None
 value_named name (s ∷ settings) = if bytes_eq s.name name then Some s.value else value_named name settings
 
 -- the command has the option, which takes the value, and its name does not stand again
-abbrev pub fits : Verb → Setting → List Setting → Bool
-fits verb s later = has verb s.name && takes s.name s.value && is_none (value_named s.name later)
+abbrev pub setting_fits : Verb → Setting → List Setting → Bool
+setting_fits verb s later = has_option verb s.name && takes_value s.name s.value && is_none (value_named s.name later)
 
 abbrev pub is_in_order : Verb → List Setting → Bool
 is_in_order verb [] = true
-is_in_order verb (s ∷ settings) = fits verb s settings && is_in_order verb settings
+is_in_order verb (s ∷ settings) = setting_fits verb s settings && is_in_order verb settings
 
 -- the number that is given to a name
 abbrev pub number_named : List ℕ → List Setting → Option ℕ
@@ -99,12 +99,12 @@ abbrev pub options_of : List Setting → Options
 options_of settings = record { at = number_named (codes "at") settings }
 
 -- the options that the words behind a command give
-abbrev pub options_said : Verb → List (List ℕ) → Option Options
-options_said verb words =
+abbrev pub options_of_words : Verb → List (List ℕ) → Option Options
+options_of_words verb words =
     option_and_then (λ settings. if is_in_order verb settings then Some (options_of settings) else None) (settings_of words)
 
 -- the command that all words give
 abbrev pub command_of : List (List ℕ) → Option Command
 command_of [] = None
 command_of (word ∷ words) =
-    option_and_then (λ verb. option_map (λ options. record { verb = verb; options = options }) (options_said verb words)) (verb_of word)
+    option_and_then (λ verb. option_map (λ options. record { verb = verb; options = options }) (options_of_words verb words)) (verb_of word)

@@ -28,41 +28,41 @@ abbrev pub is_labelled : Graph → ℕ → ℕ → Bool
 is_labelled g label v = option_map_or (eqb label) (finite.get g.labels v) false
 
 -- one end of the edge has one label, and the other end the other
-abbrev pub joins : Graph → ℕ → ℕ → ℕ × ℕ → Bool
-joins g l m e = (is_labelled g l e.0 && is_labelled g m e.1) || (is_labelled g m e.0 && is_labelled g l e.1)
+abbrev pub edge_joins : Graph → ℕ → ℕ → ℕ × ℕ → Bool
+edge_joins g l m e = (is_labelled g l e.0 && is_labelled g m e.1) || (is_labelled g m e.0 && is_labelled g l e.1)
 
 -- how many edges end at a vertex
-abbrev pub degree : Graph → ℕ → ℕ
-degree g v = count_by (ends_at v) (edges_of g)
+abbrev pub vertex_degree : Graph → ℕ → ℕ
+vertex_degree g v = count_by (ends_at v) (edges_of g)
 
 -- the largest of some numbers, and the least of them; of none, 0
-abbrev pub largest : List ℕ → ℕ
-largest [] = 0
-largest (n ∷ ns) = max n (largest ns)
+abbrev pub largest_of : List ℕ → ℕ
+largest_of [] = 0
+largest_of (n ∷ ns) = max n (largest_of ns)
 
-abbrev pub least : List ℕ → ℕ
-least [] = 0
-least (n ∷ []) = n
-least (n ∷ k ∷ ns) = min n (least (k ∷ ns))
+abbrev pub least_of : List ℕ → ℕ
+least_of [] = 0
+least_of (n ∷ []) = n
+least_of (n ∷ k ∷ ns) = min n (least_of (k ∷ ns))
 
 -- all pairs of an item of a list and one behind it
-abbrev pub pairs : List ℕ → List (ℕ × ℕ)
-pairs [] = []
-pairs (x ∷ xs) = map (λ y. (x, y)) xs ++ pairs xs
+abbrev pub item_pairs : List ℕ → List (ℕ × ℕ)
+item_pairs [] = []
+item_pairs (x ∷ xs) = map (λ y. (x, y)) xs ++ item_pairs xs
 
 -- no edge is between the two
 abbrev pub is_apart : Graph → ℕ × ℕ → Bool
 is_apart g p = not (has_edge g (edge_between p.0 p.1))
 
 -- what a term counts
-abbrev pub count : Term → Graph → ℕ
-count (Vertices asked) g = count_by (is_asked asked) (vertex_labels g)
-count (Edges asked) g = count_by (is_asked asked) (edge_labels g)
-count (Joins l m) g = count_by (joins g l m) (edges_of g)
-count Kinds g = distinct_count eqb (vertex_labels g)
-count Degree g = largest (map (degree g) (vertices_of g))
-count Missing g = count_by (is_apart g) (pairs (vertices_of g))
-count Least g = least (map (degree g) (vertices_of g))
+abbrev pub term_count : Term → Graph → ℕ
+term_count (Vertices asked) g = count_by (is_asked asked) (vertex_labels g)
+term_count (Edges asked) g = count_by (is_asked asked) (edge_labels g)
+term_count (Joins l m) g = count_by (edge_joins g l m) (edges_of g)
+term_count Kinds g = distinct_count eqb (vertex_labels g)
+term_count Degree g = largest_of (map (vertex_degree g) (vertices_of g))
+term_count Missing g = count_by (is_apart g) (item_pairs (vertices_of g))
+term_count Least g = least_of (map (vertex_degree g) (vertices_of g))
 
 -- each edge of the graph has both its ends, the lower one first
 pub record IsSimple (g : Graph) : Type 0 where

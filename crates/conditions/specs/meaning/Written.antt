@@ -24,33 +24,33 @@ sum_tokens sum = sum_by factor_tokens sum + (length sum - 1)
 
 -- Of a condition as it is written: how tightly it binds (`or` 0, `and` 1, all else 2), how many tokens it
 -- has, and how many `not` and parentheses are open at once where the most are.
-pub record Written : Type 0 where
+pub record WrittenSize : Type 0 where
   pub binding : ℕ
   pub tokens : ℕ
   pub depth : ℕ
 
 -- the pairs of parentheses round a condition: one where it binds less than its place asks for, and else none
-abbrev pub pairs_round : ℕ → Written → ℕ
-pairs_round asked c = if nat_lt c.binding asked then 1 else 0
+abbrev pub parentheses_needed : ℕ → WrittenSize → ℕ
+parentheses_needed asked c = if nat_lt c.binding asked then 1 else 0
 
-abbrev pub tokens_at : ℕ → Written → ℕ
-tokens_at asked c = c.tokens + 2 * pairs_round asked c
+abbrev pub tokens_at : ℕ → WrittenSize → ℕ
+tokens_at asked c = c.tokens + 2 * parentheses_needed asked c
 
-abbrev pub depth_at : ℕ → Written → ℕ
-depth_at asked c = c.depth + pairs_round asked c
+abbrev pub depth_at : ℕ → WrittenSize → ℕ
+depth_at asked c = c.depth + parentheses_needed asked c
 
 -- The operand of `not` has to bind by 2. `and` and `or` group to the left, so that the right operand has to
 -- bind more than the word does.
-abbrev pub written_of : Cond-F Written → Written
-written_of True = record { binding = 2; tokens = 1; depth = 0 }
-written_of False = record { binding = 2; tokens = 1; depth = 0 }
-written_of (Compare sum op bound) = record { binding = 2; tokens = sum_tokens sum + 2; depth = 0 }
-written_of (Not c) = record { binding = 2; tokens = 1 + tokens_at 2 c; depth = 1 + depth_at 2 c }
-written_of (And c d) = record { binding = 1; tokens = tokens_at 1 c + 1 + tokens_at 2 d; depth = max (depth_at 1 c) (depth_at 2 d) }
-written_of (Or c d) = record { binding = 0; tokens = tokens_at 0 c + 1 + tokens_at 1 d; depth = max (depth_at 0 c) (depth_at 1 d) }
+abbrev pub written_size_by : Cond-F WrittenSize → WrittenSize
+written_size_by True = record { binding = 2; tokens = 1; depth = 0 }
+written_size_by False = record { binding = 2; tokens = 1; depth = 0 }
+written_size_by (Compare sum op bound) = record { binding = 2; tokens = sum_tokens sum + 2; depth = 0 }
+written_size_by (Not c) = record { binding = 2; tokens = 1 + tokens_at 2 c; depth = 1 + depth_at 2 c }
+written_size_by (And c d) = record { binding = 1; tokens = tokens_at 1 c + 1 + tokens_at 2 d; depth = max (depth_at 1 c) (depth_at 2 d) }
+written_size_by (Or c d) = record { binding = 0; tokens = tokens_at 0 c + 1 + tokens_at 1 d; depth = max (depth_at 0 c) (depth_at 1 d) }
 
-abbrev pub written : Cond → Written
-written c = fold-Cond Written written_of c
+abbrev pub written_size : Cond → WrittenSize
+written_size c = fold-Cond WrittenSize written_size_by c
 
 -- the most that a factor, a bound, a sum and a whole condition may have
 abbrev pub most_times : ℕ
@@ -87,5 +87,5 @@ are_numbers_within c = fold-Cond Bool are_numbers_within_of c
 -- the condition is no larger than one may be
 pub record IsWithinLimits (c : Cond) : Type 0 where
   pub numbers : IsTrue (are_numbers_within c)
-  pub depth : (written c).depth ≤ most_depth
-  pub tokens : (written c).tokens ≤ most_tokens
+  pub depth : (written_size c).depth ≤ most_depth
+  pub tokens : (written_size c).tokens ≤ most_tokens

@@ -52,8 +52,8 @@ polarity_of kind (Or c d) = record { falls = c.falls && d.falls; rises = c.rises
 abbrev pub polarity : Mode → Cond → Polarity
 polarity kind c = fold-Cond Polarity (polarity_of kind) c
 
-abbrev pub falling : Mode → Cond → Bool
-falling kind c = (polarity kind c).falls
+abbrev pub is_falling : Mode → Cond → Bool
+is_falling kind c = (polarity kind c).falls
 
-abbrev pub rising : Mode → Cond → Bool
-rising kind c = (polarity kind c).rises
+abbrev pub is_rising : Mode → Cond → Bool
+is_rising kind c = (polarity kind c).rises

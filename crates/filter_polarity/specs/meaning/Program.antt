@@ -3,7 +3,7 @@ use Rattle.std.specs.Prelude.{ℕ, ◌≤◌, IsTrue}
 use Rattle.graph_types.specs.meaning.Piece.{most_members}
 use Rattle.graph_types.specs.declared.ids.Mode.{Mode}
 use Rattle.conditions.specs.declared.condition.Cond.{Cond}
-use Rattle.filter_polarity.specs.meaning.Polarity.{falling}
+use Rattle.filter_polarity.specs.meaning.Polarity.{is_falling}
 use Rattle.conditions.specs.meaning.Written.{IsWithinLimits}
 
 -- a condition, and the mode in which it is falling
@@ -22,6 +22,6 @@ pub record ProgramValue : Type 0 where
 pub record IsProgram (p : ProgramValue) : Type 0 where
   pub some_member : 1 ≤ p.size
   pub few_members : p.size ≤ most_members
-  pub falls : IsTrue (falling p.mode p.filter)
+  pub falls : IsTrue (is_falling p.mode p.filter)
   pub filter_within : IsWithinLimits p.filter
   pub matching_within : IsWithinLimits p.matching

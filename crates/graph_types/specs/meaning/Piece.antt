@@ -53,8 +53,8 @@ pub record PieceValue : Type 0 where
   pub members : List Member
 
 -- the piece with one more member
-abbrev pub joined : PieceValue → Member → PieceValue
-joined piece m = record { mode = piece.mode; members = with_member piece.members m }
+abbrev pub with_joined : PieceValue → Member → PieceValue
+with_joined piece m = record { mode = piece.mode; members = with_member piece.members m }
 
 -- the most members of a piece
 abbrev pub most_members : ℕ

@@ -49,8 +49,8 @@ abbrev pub goes_up : ℕ × ℕ → Bool
 goes_up e = nat_lt e.0 e.1
 
 -- the undirected graph, each of whose edges stands at its lower end
-abbrev pub undirected : Graph → Graph
-undirected g = record { labels = g.labels; edges = map.retain_keys g.edges goes_up }
+abbrev pub undirected_graph : Graph → Graph
+undirected_graph g = record { labels = g.labels; edges = map.retain_keys g.edges goes_up }
 
 -- each edge goes both ways under one label, between two different vertices that are there
 pub record IsUndirected (g : Graph) : Type 0 where

@@ -3,13 +3,13 @@ use Rattle.std.specs.Prelude.{◌≡◌, ℕ, ◌+◌, ◌-◌, ◌^◌, ◌≤�
 use Rattle.std.specs.Io.KnownBytes.{Appends}
 
 -- The count has risen. It is kept in 64 bits, so at its last value it counts as risen where it stays.
-abbrev pub Rose : ℕ → ℕ → Type 0
-Rose before now = min (before + 1) (2 ^ 64 - 1) ≤ now
+abbrev pub HasRisen : ℕ → ℕ → Type 0
+HasRisen before now = min (before + 1) (2 ^ 64 - 1) ≤ now
 
 -- The count never falls, and an error comes only where it has risen.
 pub record HasCause {T E : Type 0} (before now : ℕ) (result : Result T E) : Type 0 where
   pub kept : before ≤ now
-  pub cause : OnErr result (Rose before now)
+  pub cause : OnErr result (HasRisen before now)
 
 -- a claim about two states of optional bytes, where both are known; what was known stays known
 abbrev pub BothKnown : Option (List ℕ) → Option (List ℕ) → (List ℕ → List ℕ → Type 0) → Type 0
@@ -18,14 +18,14 @@ BothKnown (Some old) None P = ⊥
 BothKnown (Some old) (Some new) P = P old new
 
 -- Known bytes grow by some front of `text`.
-pub record AppendsFront (old new : Option (List ℕ)) (text : List ℕ) : Type 0 where
+pub record AppendsPrefix (old new : Option (List ℕ)) (text : List ℕ) : Type 0 where
   pub len : ℕ
   pub written : Appends old new (take len text)
 
 -- All of `text` was appended, or after an error a front of it.
 pub record Puts {T E : Type 0} (old new : Option (List ℕ)) (text : List ℕ) (result : Result T E) : Type 0 where
   pub all : OnOk result (Appends old new text)
-  pub front : OnErr result (AppendsFront old new text)
+  pub front : OnErr result (AppendsPrefix old new text)
 
 -- Some bytes were written, and with what is held now they make up what was held and then `text`.
 pub record PassesOn (old : Option (List ℕ)) (held : List ℕ) (new : Option (List ℕ)) (holds text : List ℕ) : Type 0 where
@@ -37,4 +37,4 @@ pub record PassesOn (old : Option (List ℕ)) (held : List ℕ) (new : Option (L
 -- error a front of all this was written.
 pub record Gathers {T E : Type 0} (old : Option (List ℕ)) (held : List ℕ) (new : Option (List ℕ)) (holds text : List ℕ) (result : Result T E) : Type 0 where
   pub passed : OnOk result (PassesOn old held new holds text)
-  pub front : OnErr result (AppendsFront old new (held ++ text))
+  pub front : OnErr result (AppendsPrefix old new (held ++ text))

@@ -4,8 +4,8 @@ use Rattle.std.specs.List.{list_any}
 use Rattle.job_io.specs.declared.ends.Failed.{Failed}
 
 -- the next value of a count that is kept in 64 bits
-abbrev pub raised : ℕ → ℕ
-raised count = min (count + 1) (2 ^ 64 - 1)
+abbrev pub next_count : ℕ → ℕ
+next_count count = min (count + 1) (2 ^ 64 - 1)
 
 -- whether this call, counted from 1, is one of those that fail
 abbrev pub is_failing : List ℕ → ℕ → Bool
@@ -22,7 +22,7 @@ pub record MemoryReading : Type 0 where
 
 -- whether the next read fails
 abbrev pub read_fails : MemoryReading → Bool
-read_fails s = is_failing s.failing (raised s.calls)
+read_fails s = is_failing s.failing (next_count s.calls)
 
 -- how many bytes it gives into a buffer of `room` bytes, where it does not fail
 abbrev pub read_len : MemoryReading → ℕ → ℕ
@@ -35,8 +35,8 @@ read_answer s room = if read_fails s then Err (record {}) else Ok (read_len s ro
 -- the source after it
 abbrev pub after_read : MemoryReading → ℕ → MemoryReading
 after_read s room = if read_fails s
-    then record s { calls = raised s.calls; faults = raised s.faults }
-    else record s { left = drop (read_len s room) s.left; calls = raised s.calls }
+    then record s { calls = next_count s.calls; faults = next_count s.faults }
+    else record s { left = drop (read_len s room) s.left; calls = next_count s.calls }
 
 -- a sink in memory: the bytes written, the most that it holds, the most that a call takes, the calls
 -- made, the calls that fail, and how often it has failed
@@ -50,7 +50,7 @@ pub record MemoryWriting : Type 0 where
 
 -- whether the next write fails
 abbrev pub write_fails : MemoryWriting → Bool
-write_fails s = is_failing s.failing (raised s.calls)
+write_fails s = is_failing s.failing (next_count s.calls)
 
 -- how many of `len` bytes it takes, where it does not fail
 abbrev pub write_len : MemoryWriting → ℕ → ℕ
@@ -67,9 +67,9 @@ write_is_full s len = nat_eq (write_len s len) 0 && nat_lt 0 len
 -- the sink after it
 abbrev pub after_write : MemoryWriting → List ℕ → MemoryWriting
 after_write s bytes = if write_fails s
-    then record s { calls = raised s.calls; faults = raised s.faults }
+    then record s { calls = next_count s.calls; faults = next_count s.faults }
     else record s {
       written = s.written ++ take (write_len s (length bytes)) bytes;
-      calls = raised s.calls;
-      faults = if write_is_full s (length bytes) then raised s.faults else s.faults;
+      calls = next_count s.calls;
+      faults = if write_is_full s (length bytes) then next_count s.faults else s.faults;
     }

@@ -9,8 +9,8 @@ use Rattle.job_io.specs.calls.Ends.{BothKnown}
 use Rattle.job_io.specs.meaning.Lines.{lf, most_line_bytes, HasNoLf, Reading, GivesLine, GivesEnd, StopsInLine, LongLineFollows}
 
 -- bytes went from the source to those held, and none is lost
-abbrev pub Takes : List ℕ → List ℕ → Option (List ℕ) → Option (List ℕ) → Type 0
-Takes held now was is = BothKnown was is (λ was is. held ++ was ≡ now ++ is)
+abbrev pub MovesBytes : List ℕ → List ℕ → Option (List ℕ) → Option (List ℕ) → Type 0
+MovesBytes held now was is = BothKnown was is (λ was is. held ++ was ≡ now ++ is)
 
 -- no LF so far, and no more bytes than a line may have
 pub record IsShort (held : List ℕ) : Type 0 where
@@ -40,9 +40,9 @@ TellsAny held later true = held ≢ []
 TellsAny held later false = (held ≡ []) × IsAtEnd later
 
 -- What a call for the next line does. `was` and `is` are what the source has left before and after.
-abbrev pub Nexts : Reading → Reading → Option (List ℕ) → Option (List ℕ) → Result Bool LineFault → Type 0
-Nexts old new was is (Ok true) = BothKnown was is (GivesLine old new)
-Nexts old new was is (Ok false) = BothKnown was is (GivesEnd old new)
-Nexts old new was is (Err fault.ReadFault) = BothKnown was is (StopsInLine old new) × (old.number ≡ old.most → new.held ≡ [])
-Nexts old new was is (Err (fault.TooLong n)) = (n ≡ old.number + 1) × (n ≤ old.most) × BothKnown was is (λ was _. LongLineFollows (old.held ++ was))
-Nexts old new was is (Err (fault.TooMany n)) = (n ≡ old.most + 1) × (old.number ≡ old.most) × BothKnown was is (λ was _. old.held ++ was ≢ [])
+abbrev pub ReadsNext : Reading → Reading → Option (List ℕ) → Option (List ℕ) → Result Bool LineFault → Type 0
+ReadsNext old new was is (Ok true) = BothKnown was is (GivesLine old new)
+ReadsNext old new was is (Ok false) = BothKnown was is (GivesEnd old new)
+ReadsNext old new was is (Err fault.ReadFault) = BothKnown was is (StopsInLine old new) × (old.number ≡ old.most → new.held ≡ [])
+ReadsNext old new was is (Err (fault.TooLong n)) = (n ≡ old.number + 1) × (n ≤ old.most) × BothKnown was is (λ was _. LongLineFollows (old.held ++ was))
+ReadsNext old new was is (Err (fault.TooMany n)) = (n ≡ old.most + 1) × (old.number ≡ old.most) × BothKnown was is (λ was _. old.held ++ was ≢ [])

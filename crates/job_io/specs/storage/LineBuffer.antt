@@ -4,7 +4,7 @@ use Rattle.job_io.specs.declared.line_buffer.TheConstants.{BLOCK}
 use Rattle.std.specs.Io.KnownBytes.{Consumes, Keeps, IsAtEnd}
 
 -- the line that was given last, and the bytes that were taken and not given
-pub record Buffered : Type 0 where
+pub record BufferValue : Type 0 where
   pub line : List ℕ
   pub held : List ℕ
 

@@ -30,8 +30,8 @@ with_name names name (Some n) = Some (n, names)
 with_name names name None = if nat_lt (length names) most_names then Some (length names, names ++ name ∷ []) else None
 
 -- the number of a name and the names then; none where the name is new and there is no room for it
-abbrev pub interned : Names → List ℕ → Option (ℕ × Names)
-interned names name = with_name names name (number_in names name)
+abbrev pub interning : Names → List ℕ → Option (ℕ × Names)
+interning names name = with_name names name (number_in names name)
 
 -- labels, of which `_` is the first, no two are the same, and there are not too many
 pub record AreNames (names : Names) : Type 0 where

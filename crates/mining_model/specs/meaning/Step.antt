@@ -44,19 +44,19 @@ step g (RemoveEdge from to) = at_edge g from to (remove_edge g)
 step g (LabelEdge from to label) = at_edge g from to (label_edge g label)
 
 -- the graph that a step left, and g where it was refused
-abbrev pub left_by : Graph → Result Graph Refusal → Graph
-left_by g (Ok after) = after
-left_by g (Err refusal) = g
+abbrev pub graph_left_by : Graph → Result Graph Refusal → Graph
+graph_left_by g (Ok graph_after) = graph_after
+graph_left_by g (Err refusal) = g
 
 -- the graph after an update; a refused one changes nothing
-abbrev pub after : Graph → Update → Graph
-after g u = left_by g (step g u)
+abbrev pub graph_after : Graph → Update → Graph
+graph_after g u = graph_left_by g (step g u)
 
 -- the graph after some updates, from g on
-abbrev pub after_all : Graph → List Update → Graph
-after_all g [] = g
-after_all g (u ∷ us) = after_all (after g u) us
+abbrev pub graph_after_all : Graph → List Update → Graph
+graph_after_all g [] = g
+graph_after_all g (u ∷ us) = graph_after_all (graph_after g u) us
 
 -- the snapshot after the first t updates, from nothing
 abbrev pub snapshot : List Update → ℕ → Graph
-snapshot us t = after_all empty_graph (take t us)
+snapshot us t = graph_after_all empty_graph (take t us)

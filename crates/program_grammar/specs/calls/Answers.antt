@@ -8,7 +8,7 @@ use Rattle.program_grammar.specs.declared.fault.ReadError.{ReadError}
 use Rattle.program_grammar.specs.declared.fault.ReadError.TheVariants as error
 use Rattle.program_grammar.specs.declared.fault.Refusal.{Refusal}
 use Rattle.program_grammar.specs.declared.fault.Refusal.TheVariants as refusal
-use Rattle.program_grammar.specs.calls.Reading.{AddsFirst, Grows}
+use Rattle.program_grammar.specs.calls.Reading.{AddsFirst, AddsNames}
 
 -- There is room for the labels of a condition, whatever they are; or there is for those that it brings.
 abbrev pub FewNames : {A : Type 0} → Result (A × Names) Refusal → Type 0
@@ -19,26 +19,26 @@ abbrev pub HasRoom : {A : Type 0} → Names → Result (A × Names) Refusal → 
 HasRoom names said = (length names + most_tokens ≤ most_names) ⊎ FewNames said
 
 -- a line that was read brings these labels, and no more than a condition has tokens
-abbrev pub Brings : {A : Type 0} → Names → A × Names → List (List ℕ) → Type 0
-Brings old read labels = (read.1 ≡ old ++ labels) × (length labels ≤ most_tokens)
+abbrev pub BringsLabels : {A : Type 0} → Names → A × Names → List (List ℕ) → Type 0
+BringsLabels old read labels = (read.1 ≡ old ++ labels) × (length labels ≤ most_tokens)
 
 -- Memory was wanted: the names are as they were, or the first of the labels that the line brings were added, and
 -- no others. A line that is refused brings none.
-abbrev pub Starves : {A : Type 0} → Names → Result (A × Names) Refusal → Names → Type 0
-Starves old (Ok read) new = (new ≡ old) ⊎ ((labels : List (List ℕ)) × Brings old read labels × AddsFirst labels old new)
-Starves old (Err f) new = new ≡ old
+abbrev pub RunsOut : {A : Type 0} → Names → Result (A × Names) Refusal → Names → Type 0
+RunsOut old (Ok read) new = (new ≡ old) ⊎ ((labels : List (List ℕ)) × BringsLabels old read labels × AddsFirst labels old new)
+RunsOut old (Err f) new = new ≡ old
 
 -- It was read, and the names are those then, with few more; or it was refused, and they are as they were; or
 -- memory was wanted.
-abbrev pub Answers : {A : Type 0} → Names → Result (A × Names) Refusal → Result A ReadError → Names → Type 0
-Answers old said (Ok x) new = (said ≡ Ok (x, new)) × Grows most_tokens old new
-Answers old said (Err error.NoMemory) new = Starves old said new
-Answers old said (Err (error.Refused f)) new = (said ≡ Err f) × (new ≡ old)
+abbrev pub AnswersReading : {A : Type 0} → Names → Result (A × Names) Refusal → Result A ReadError → Names → Type 0
+AnswersReading old said (Ok x) new = (said ≡ Ok (x, new)) × AddsNames most_tokens old new
+AnswersReading old said (Err error.NoMemory) new = RunsOut old said new
+AnswersReading old said (Err (error.Refused f)) new = (said ≡ Err f) × (new ≡ old)
 
 -- the same of line n, by which a refusal is told
 abbrev pub AnswersLine : {A : Type 0} → ℕ → Names → Result (A × Names) Refusal → Result A ProgramFault → Names → Type 0
-AnswersLine n old said (Ok x) new = (said ≡ Ok (x, new)) × Grows most_tokens old new
-AnswersLine n old said (Err fault.NoMemory) new = Starves old said new
+AnswersLine n old said (Ok x) new = (said ≡ Ok (x, new)) × AddsNames most_tokens old new
+AnswersLine n old said (Err fault.NoMemory) new = RunsOut old said new
 AnswersLine n old said (Err (fault.BadLine line)) new = (line ≡ n) × (said ≡ Err refusal.BadLine) × (new ≡ old)
 AnswersLine n old said (Err (fault.SizeRange line)) new = (line ≡ n) × (said ≡ Err refusal.SizeRange) × (new ≡ old)
 AnswersLine n old said (Err (fault.TooDeep line)) new = (line ≡ n) × (said ≡ Err refusal.TooDeep) × (new ≡ old)

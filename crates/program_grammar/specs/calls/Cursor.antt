@@ -18,18 +18,18 @@ token_of Times = spec.times
 token_of (Op o) = spec.op o
 
 -- of the tokens `old`, the one that was taken is the first, and `new` are the rest
-abbrev pub Yields : List spec.Token → Option Token → List spec.Token → Type 0
-Yields old token new = MatchOption token ((old ≡ []) × (new ≡ [])) (λ t. old ≡ token_of t ∷ new)
+abbrev pub YieldsToken : List spec.Token → Option Token → List spec.Token → Type 0
+YieldsToken old token new = MatchOption token ((old ≡ []) × (new ≡ [])) (λ t. old ≡ token_of t ∷ new)
 
 -- the token at the front of a text and what stands behind it; none where only blanks are left
-abbrev pub Splits : List ℕ → Option (Token × Bor (List ℕ)) → Type 0
-Splits text split = MatchOption split (tokens_in text ≡ []) (λ t. (tokens_in text ≡ token_of t.0 ∷ tokens_in t.1.now) × IsSome (tokens_of t.1.now))
+abbrev pub SplitsToken : List ℕ → Option (Token × Bor (List ℕ)) → Type 0
+SplitsToken text split = MatchOption split (tokens_in text ≡ []) (λ t. (tokens_in text ≡ token_of t.0 ∷ tokens_in t.1.now) × IsSome (tokens_of t.1.now))
 
 -- the first of the tokens `old` was taken, if it is of the kind that is asked for; else nothing changed
 abbrev pub TakesFirst : {A : Type 0} → (spec.Token → Option A) → List spec.Token → Option A → List spec.Token → Type 0
 TakesFirst kind old (Some x) new = first_of kind old ≡ Some (x, new)
 TakesFirst kind old None new = (first_of kind old ≡ None) × (new ≡ old)
 
-abbrev pub is_empty : List spec.Token → Bool
-is_empty [] = true
-is_empty (t ∷ ts) = false
+abbrev pub has_no_token : List spec.Token → Bool
+has_no_token [] = true
+has_no_token (t ∷ ts) = false

@@ -11,26 +11,26 @@ use Rattle.program_grammar.specs.declared.fault.Refusal.TheVariants.{BadLine}
 use Rattle.program_grammar.specs.declared.fault.ReadError.{ReadError}
 use Rattle.program_grammar.specs.declared.fault.ReadError.TheVariants as error
 use Rattle.program_grammar.specs.meaning.Token.{Token, plus, tokens_code}
-use Rattle.program_grammar.specs.meaning.Grammar.{behind, use_of}
+use Rattle.program_grammar.specs.meaning.Grammar.{tokens_after, use_of}
 
 -- the tokens to come, the names with the labels that came so far, and the names before
-pub record Left : Type 0 where
+pub record ReaderState : Type 0 where
   pub tokens : List Token
   pub names : Names
   pub known : Names
 
-abbrev pub left_code : Coded Left
-left_code =
+abbrev pub reader_state_code : Coded ReaderState
+reader_state_code =
     code_by (List Token × (Names × Names)) (coded× tokens_code (coded× (coded_list (coded_list coded_ℕ)) (coded_list (coded_list coded_ℕ))))
     (λ l. (l.tokens, (l.names, l.known))) (λ p. record { tokens = p.0; names = p.1.0; known = p.1.1 }) (λ _. refl)
 
 -- no label more came
-pub record KeepsNames (old new : Left) : Type 0 where
+pub record KeepsNames (old new : ReaderState) : Type 0 where
   pub names : new.names ≡ old.names
   pub known : new.known ≡ old.known
 
 -- tokens were taken, and the names before are the same
-pub record GoesOn (old new : Left) : Type 0 where
+pub record TakesTokens (old new : ReaderState) : Type 0 where
   pub shorter : length new.tokens ≤ length old.tokens
   pub known : new.known ≡ old.known
 
@@ -40,45 +40,45 @@ AreNew names [] = Unit {0}
 AreNew names (label ∷ labels) = IsTrue (is_label_word label) × (number_in names label ≡ None) × AreNew (names ++ label ∷ []) labels
 
 -- what was read of the tokens, as a production says, or its refusal; or memory was wanted
-abbrev pub Reads : {A : Type 0} → Result A ReadError → Left → Result (A × List Token × Names) Refusal → Type 0
-Reads (Ok x) left read = read ≡ Ok (x, left.tokens, left.names)
-Reads (Err error.NoMemory) left read = Unit {0}
-Reads (Err (error.Refused f)) left read = read ≡ Err f
+abbrev pub ReadsProduction : {A : Type 0} → Result A ReadError → ReaderState → Result (A × List Token × Names) Refusal → Type 0
+ReadsProduction (Ok x) left read = read ≡ Ok (x, left.tokens, left.names)
+ReadsProduction (Err error.NoMemory) left read = Unit {0}
+ReadsProduction (Err (error.Refused f)) left read = read ≡ Err f
 
 -- the same of what names no label and takes no memory; the names stay
-abbrev pub Takes : {A : Type 0} → Left → Result A Refusal → Left → Result (A × List Token) Refusal → Type 0
-Takes old (Ok x) new read = (read ≡ Ok (x, new.tokens)) × (new.names ≡ old.names)
-Takes old (Err f) new read = read ≡ Err f
+abbrev pub ReadsTokens : {A : Type 0} → ReaderState → Result A Refusal → ReaderState → Result (A × List Token) Refusal → Type 0
+ReadsTokens old (Ok x) new read = (read ≡ Ok (x, new.tokens)) × (new.names ≡ old.names)
+ReadsTokens old (Err f) new read = read ≡ Err f
 
 -- the token was next and was passed, and the names stay; or it wasn't next, and nothing changed
-pub record Passes (token : Token) (old new : Left) : Type 0 where
-  pub passed : behind token old.tokens ≡ Some new.tokens
+pub record PassesToken (token : Token) (old new : ReaderState) : Type 0 where
+  pub passed : tokens_after token old.tokens ≡ Some new.tokens
   pub shorter : length new.tokens + 1 ≡ length old.tokens
   pub names : new.names ≡ old.names
   pub known : new.known ≡ old.known
 
-pub record Misses (token : Token) (old new : Left) : Type 0 where
-  pub missed : behind token old.tokens ≡ None
+pub record MissesToken (token : Token) (old new : ReaderState) : Type 0 where
+  pub missed : tokens_after token old.tokens ≡ None
   pub unchanged : new ≡ old
 
 -- What was read behind a use where there is room for `room` uses more: one of them, where a `+` is next; and
 -- else none.
-abbrev pub ReadsUse : ℕ → Left → Result (Option Factor) ReadError → Left → Type 0
+abbrev pub ReadsUse : ℕ → ReaderState → Result (Option Factor) ReadError → ReaderState → Type 0
 ReadsUse room old (Ok (Some u)) new =
-    (0 < room) × (length new.tokens < length old.tokens) × (rest : List Token) × (behind plus old.tokens ≡ Some rest) × (use_of rest old.names ≡ Ok (u, new.tokens, new.names))
-ReadsUse room old (Ok None) new = (behind plus old.tokens ≡ None) × (new ≡ old)
+    (0 < room) × (length new.tokens < length old.tokens) × (rest : List Token) × (tokens_after plus old.tokens ≡ Some rest) × (use_of rest old.names ≡ Ok (u, new.tokens, new.names))
+ReadsUse room old (Ok None) new = (tokens_after plus old.tokens ≡ None) × (new ≡ old)
 ReadsUse room old (Err error.NoMemory) new = Unit {0}
 ReadsUse room old (Err (error.Refused f)) new =
-    (rest : List Token) × (behind plus old.tokens ≡ Some rest) × (((room ≡ 0) × (f ≡ BadLine)) ⊎ ((0 < room) × (use_of rest old.names ≡ Err f)))
+    (rest : List Token) × (tokens_after plus old.tokens ≡ Some rest) × (((room ≡ 0) × (f ≡ BadLine)) ⊎ ((0 < room) × (use_of rest old.names ≡ Err f)))
 
 -- the labels that came, each of them new
-pub record NewLabels (left : Left) (labels : List (List ℕ)) : Type 0 where
+pub record NewLabels (left : ReaderState) (labels : List (List ℕ)) : Type 0 where
   pub names : left.names ≡ left.known ++ labels
   pub new : AreNew left.known labels
   pub few : length labels ≤ most_tokens
 
 -- some names more, at most so many, stand behind the old ones
-pub record Grows (most : ℕ) (old new : Names) : Type 0 where
+pub record AddsNames (most : ℕ) (old new : Names) : Type 0 where
   pub more : Names
   pub behind : new ≡ old ++ more
   pub few : length more ≤ most
@@ -88,9 +88,9 @@ abbrev pub AddsFirst : List (List ℕ) → Names → Names → Type 0
 AddsFirst labels old new = (n : ℕ) × (new ≡ old ++ take n labels)
 
 -- a refusal is that of the definition, unless memory was wanted
-abbrev pub Fails : {A : Type 0} → ReadError → Result A Refusal → Type 0
-Fails error.NoMemory read = Unit {0}
-Fails (error.Refused f) read = read ≡ Err f
+abbrev pub RefusesAs : {A : Type 0} → ReadError → Result A Refusal → Type 0
+RefusesAs error.NoMemory read = Unit {0}
+RefusesAs (error.Refused f) read = read ≡ Err f
 
 -- the condition is read with these labels behind the names, each of them new
 pub record Parses (names : Names) (said : Result (Cond × Names) Refusal) (c : Cond) (labels : List (List ℕ)) : Type 0 where

@@ -6,7 +6,7 @@ use Rattle.graph_types.specs.declared.ids.Mode.TheVariants as mode
 use Rattle.line_fields.specs.meaning.Fields.{words_of, rest_of, number_of, is_nothing_line}
 use Rattle.line_fields.specs.meaning.Names.{Names}
 use Rattle.conditions.specs.declared.condition.Cond.{Cond}
-use Rattle.filter_polarity.specs.meaning.Polarity.{falling}
+use Rattle.filter_polarity.specs.meaning.Polarity.{is_falling}
 use Rattle.filter_polarity.specs.meaning.Program.{FallingValue}
 use Rattle.program_grammar.specs.declared.fault.Refusal.{Refusal}
 use Rattle.program_grammar.specs.declared.fault.Refusal.TheVariants.{BadLine, SizeRange, NotFalling}
@@ -20,12 +20,12 @@ use Rattle.program_grammar.specs.meaning.Grammar.{◌>>=◌, condition_of}
 use Rattle.program_grammar.specs.meaning.Sizes.{size_in}
 
 -- the word with which the awaited line begins
-abbrev pub awaited : HeaderReader → Word
-awaited header.Mode = word.Mode
-awaited (header.Size m) = word.Size
-awaited (header.Filter m n) = word.Filter
-awaited (header.Match n f) = word.Match
-awaited (header.Begin n f c) = word.Begin
+abbrev pub awaited_word : HeaderReader → Word
+awaited_word header.Mode = word.Mode
+awaited_word (header.Size m) = word.Size
+awaited_word (header.Filter m n) = word.Filter
+awaited_word (header.Match n f) = word.Match
+awaited_word (header.Begin n f c) = word.Begin
 
 -- the words are just this one, and just these two
 abbrev pub is_word : List ℕ → List (List ℕ) → Bool
@@ -42,8 +42,8 @@ is_first text [] = false
 is_first text (w ∷ words) = bytes_eq w text
 
 -- `mode vertex` or `mode edge`
-unfoldable pub mode_of : List (List ℕ) → Result Mode Refusal
-mode_of words =
+unfoldable pub mode_said : List (List ℕ) → Result Mode Refusal
+mode_said words =
     if is_pair (codes "mode") (codes "vertex") words then Ok mode.Vertex
     else if is_pair (codes "mode") (codes "edge") words then Ok mode.Edge
     else Err BadLine
@@ -70,26 +70,26 @@ unfoldable pub size_of : List (List ℕ) → Result ℕ Refusal
 size_of words = size_said (value_of (codes "size") words)
 
 -- a condition behind the first word, which has to be this one
-unfoldable pub condition_behind : List ℕ → List ℕ → Names → Result (Cond × Names) Refusal
-condition_behind text line names = if is_first text (words_of line) then condition_of (rest_of line 1) names else Err BadLine
+unfoldable pub condition_after_word : List ℕ → List ℕ → Names → Result (Cond × Names) Refusal
+condition_after_word text line names = if is_first text (words_of line) then condition_of (rest_of line 1) names else Err BadLine
 
 -- the filter has to be falling in the job's mode
 abbrev pub if_falling : Mode → Cond × Names → Result (FallingValue × Names) Refusal
-if_falling m c = if falling m c.0 then Ok (record { mode = m; cond = c.0 }, c.1) else Err NotFalling
+if_falling m c = if is_falling m c.0 then Ok (record { mode = m; cond = c.0 }, c.1) else Err NotFalling
 
 unfoldable pub filter_of : Mode → List ℕ → Names → Result (FallingValue × Names) Refusal
-filter_of m line names = condition_behind (codes "filter") line names >>= if_falling m
+filter_of m line names = condition_after_word (codes "filter") line names >>= if_falling m
 
 -- what the awaited line leads to, and the names then; or why it is refused
-unfoldable pub said_by : HeaderReader → List ℕ → Names → Result (HeaderStep × Names) Refusal
-said_by header.Mode line names = mode_of (words_of line) >>= λ m. Ok (More (header.Size m), names)
-said_by (header.Size m) line names = size_of (words_of line) >>= λ n. Ok (More (header.Filter m n), names)
-said_by (header.Filter m n) line names = filter_of m line names >>= λ f. Ok (More (header.Match n f.0), f.1)
-said_by (header.Match n f) line names = condition_behind (codes "match") line names >>= λ c. Ok (More (header.Begin n f c.0), c.1)
-said_by (header.Begin n f c) line names =
+unfoldable pub awaited_line_said : HeaderReader → List ℕ → Names → Result (HeaderStep × Names) Refusal
+awaited_line_said header.Mode line names = mode_said (words_of line) >>= λ m. Ok (More (header.Size m), names)
+awaited_line_said (header.Size m) line names = size_of (words_of line) >>= λ n. Ok (More (header.Filter m n), names)
+awaited_line_said (header.Filter m n) line names = filter_of m line names >>= λ f. Ok (More (header.Match n f.0), f.1)
+awaited_line_said (header.Match n f) line names = condition_after_word (codes "match") line names >>= λ c. Ok (More (header.Begin n f c.0), c.1)
+awaited_line_said (header.Begin n f c) line names =
     if is_word (codes "begin") (words_of line) then Ok (Ready (record { mode = f.mode; size = n; filter = f.cond; matching = c }), names)
     else Err BadLine
 
 -- a line that says nothing leads on without a change
 unfoldable pub header_said : HeaderReader → List ℕ → Names → Result (HeaderStep × Names) Refusal
-header_said h line names = if is_nothing_line line then Ok (More h, names) else said_by h line names
+header_said h line names = if is_nothing_line line then Ok (More h, names) else awaited_line_said h line names

@@ -11,27 +11,27 @@ use Rattle.program_grammar.specs.declared.header.HeaderReader.{HeaderReader}
 use Rattle.program_grammar.specs.declared.header.HeaderReader.TheVariants as header
 use Rattle.program_grammar.specs.declared.header.HeaderStep.{HeaderStep}
 use Rattle.program_grammar.specs.declared.header.HeaderStep.TheVariants.{More, Ready}
-use Rattle.program_grammar.specs.calls.Answers.{HasRoom, Starves}
+use Rattle.program_grammar.specs.calls.Answers.{HasRoom, RunsOut}
 use Rattle.program_grammar.specs.calls.Faults.{fault_at}
-use Rattle.program_grammar.specs.meaning.Header.{awaited, header_said}
+use Rattle.program_grammar.specs.meaning.Header.{awaited_word, header_said}
 
 -- what lines say, or the first refusal among them, and the names then
-abbrev pub Judged : Type 0
-Judged = Result ProgramValue ProgramFault × Names
+abbrev pub ProgramOutcome : Type 0
+ProgramOutcome = Result ProgramValue ProgramFault × Names
 
 -- what a line leads to, by what the lines behind it say
-abbrev pub judged_by : (HeaderReader → Names → Judged) → ℕ → Names → Result (HeaderStep × Names) Refusal → Judged
-judged_by later number names (Ok (More next, after)) = later next after
-judged_by later number names (Ok (Ready p, after)) = (Ok p, after)
-judged_by later number names (Err f) = (Err (fault_at (Refused f) number), names)
+abbrev pub outcome_after_line : (HeaderReader → Names → ProgramOutcome) → ℕ → Names → Result (HeaderStep × Names) Refusal → ProgramOutcome
+outcome_after_line later number names (Ok (More next, after)) = later next after
+outcome_after_line later number names (Ok (Ready p, after)) = (Ok p, after)
+outcome_after_line later number names (Err f) = (Err (fault_at (Refused f) number), names)
 
 -- The lines from this number on, of which the first is the one that is awaited. Where they end early, the word
 -- that is missing is told.
-abbrev pub lines_said : HeaderReader → ℕ → List (List ℕ) → Names → Judged
-lines_said h number [] names = (Err (fault.Missing (awaited h)), names)
-lines_said h number (line ∷ lines) names = judged_by (λ next after. lines_said next (number + 1) lines after) number names (header_said h line names)
+abbrev pub lines_said : HeaderReader → ℕ → List (List ℕ) → Names → ProgramOutcome
+lines_said h number [] names = (Err (fault.Missing (awaited_word h)), names)
+lines_said h number (line ∷ lines) names = outcome_after_line (λ next after. lines_said next (number + 1) lines after) number names (header_said h line names)
 
-abbrev pub program_said : List (List ℕ) → Names → Judged
+abbrev pub program_said : List (List ℕ) → Names → ProgramOutcome
 program_said lines names = lines_said header.Mode 1 lines names
 
 -- there is room for the labels of each line
@@ -56,16 +56,16 @@ abbrev pub RoomFor : HeaderReader → Names → Type 0
 RoomFor h names = length names + conditions_left h * most_tokens ≤ most_names
 
 -- memory was wanted at one of the lines, behind those that led on
-abbrev pub starves_next : (HeaderReader → Names → Type 0) → Result (HeaderStep × Names) Refusal → Type 0
-starves_next later (Ok (More next, after)) = later next after
-starves_next later said = ⊥
+abbrev pub runs_out_next : (HeaderReader → Names → Type 0) → Result (HeaderStep × Names) Refusal → Type 0
+runs_out_next later (Ok (More next, after)) = later next after
+runs_out_next later said = ⊥
 
-abbrev pub LinesStarve : HeaderReader → List (List ℕ) → Names → Names → Type 0
-LinesStarve h [] names new = ⊥
-LinesStarve h (line ∷ lines) names new =
-    Starves names (header_said h line names) new ⊎ starves_next (λ next after. LinesStarve next lines after new) (header_said h line names)
+abbrev pub LinesRunOut : HeaderReader → List (List ℕ) → Names → Names → Type 0
+LinesRunOut h [] names new = ⊥
+LinesRunOut h (line ∷ lines) names new =
+    RunsOut names (header_said h line names) new ⊎ runs_out_next (λ next after. LinesRunOut next lines after new) (header_said h line names)
 
 -- the answer is what the lines say, and the names are those then; or memory was wanted
 abbrev pub ReadsProgram : List (List ℕ) → Names → Result ProgramValue ProgramFault → Names → Type 0
-ReadsProgram lines old (Err fault.NoMemory) new = LinesStarve header.Mode lines old new
+ReadsProgram lines old (Err fault.NoMemory) new = LinesRunOut header.Mode lines old new
 ReadsProgram lines old result new = program_said lines old ≡ (result, new)

@@ -56,22 +56,22 @@ pub record Text : Type 0 where
   pub text : List ℕ
 
 -- in parentheses where it binds less than its place asks
-abbrev pub text_at : ℕ → Text → List ℕ
-text_at asked t = if nat_lt t.binding asked then codes "(" ++ t.text ++ codes ")" else t.text
+abbrev pub text_in_place : ℕ → Text → List ℕ
+text_in_place asked t = if nat_lt t.binding asked then codes "(" ++ t.text ++ codes ")" else t.text
 
 abbrev pub text_by : Names → Cond-F Text → Text
 text_by names True = record { binding = 2; text = codes "true" }
 text_by names False = record { binding = 2; text = codes "false" }
 text_by names (Compare sum op bound) = record { binding = 2; text = sum_text names sum ++ codes " " ++ op_text op ++ codes " " ++ decimal bound }
-text_by names (Not c) = record { binding = 2; text = codes "not " ++ text_at 2 c }
-text_by names (And c d) = record { binding = 1; text = text_at 1 c ++ codes " and " ++ text_at 2 d }
-text_by names (Or c d) = record { binding = 0; text = text_at 0 c ++ codes " or " ++ text_at 1 d }
+text_by names (Not c) = record { binding = 2; text = codes "not " ++ text_in_place 2 c }
+text_by names (And c d) = record { binding = 1; text = text_in_place 1 c ++ codes " and " ++ text_in_place 2 d }
+text_by names (Or c d) = record { binding = 0; text = text_in_place 0 c ++ codes " or " ++ text_in_place 1 d }
 
-abbrev pub written_cond : Names → Cond → Text
-written_cond names c = fold-Cond Text (text_by names) c
+abbrev pub bound_text : Names → Cond → Text
+bound_text names c = fold-Cond Text (text_by names) c
 
 abbrev pub cond_text : Names → Cond → List ℕ
-cond_text names c = (written_cond names c).text
+cond_text names c = (bound_text names c).text
 
 abbrev pub mode_text : Mode → List ℕ
 mode_text mode.Vertex = codes "vertex"
@@ -94,13 +94,13 @@ knows_term names (Edges (Some l)) = nat_lt l (length names)
 knows_term names (Joins l m) = nat_lt l (length names) && nat_lt m (length names)
 knows_term names t = true
 
-abbrev pub knows_by : Names → Cond-F Bool → Bool
-knows_by names True = true
-knows_by names False = true
-knows_by names (Compare sum op bound) = list_all (λ f. knows_term names f.term) sum
-knows_by names (Not c) = c
-knows_by names (And c d) = c && d
-knows_by names (Or c d) = c && d
+abbrev pub knows_labels_by : Names → Cond-F Bool → Bool
+knows_labels_by names True = true
+knows_labels_by names False = true
+knows_labels_by names (Compare sum op bound) = list_all (λ f. knows_term names f.term) sum
+knows_labels_by names (Not c) = c
+knows_labels_by names (And c d) = c && d
+knows_labels_by names (Or c d) = c && d
 
-abbrev pub knows : Names → Cond → Bool
-knows names c = fold-Cond Bool (knows_by names) c
+abbrev pub knows_labels : Names → Cond → Bool
+knows_labels names c = fold-Cond Bool (knows_labels_by names) c

@@ -27,16 +27,16 @@ op_number Equal = 4
 op_number Unequal = 5
 
 -- the two tokens are the same
-abbrev pub is_same : Token → Token → Bool
-is_same (word w) (word v) = bytes_eq w v
-is_same (number d) (number e) = bytes_eq d e
-is_same opening opening = true
-is_same closing closing = true
-is_same comma comma = true
-is_same plus plus = true
-is_same times times = true
-is_same (op o) (op p) = eqb (op_number o) (op_number p)
-is_same t u = false
+abbrev pub is_same_token : Token → Token → Bool
+is_same_token (word w) (word v) = bytes_eq w v
+is_same_token (number d) (number e) = bytes_eq d e
+is_same_token opening opening = true
+is_same_token closing closing = true
+is_same_token comma comma = true
+is_same_token plus plus = true
+is_same_token times times = true
+is_same_token (op o) (op p) = eqb (op_number o) (op_number p)
+is_same_token t u = false
 
 -- what a word, a number and a comparing sign have
 abbrev pub bytes_in : Token → Option (List ℕ)

@@ -15,12 +15,12 @@ abbrev pub is_dash : ℕ → Bool
 is_dash b = eqb b 45
 
 -- two ends make an edge where the first is below the second
-abbrev pub edge_from : ℕ → ℕ → Option Member
-edge_from x y = if nat_lt x y then Some (member.Edge (x, y)) else None
+abbrev pub edge_of_ends : ℕ → ℕ → Option Member
+edge_of_ends x y = if nat_lt x y then Some (member.Edge (x, y)) else None
 
 -- the edge that two words say, an id each
 abbrev pub edge_said : List ℕ → List ℕ → Option Member
-edge_said low high = option_and_then (λ x. option_and_then (edge_from x) (id_of high)) (id_of low)
+edge_said low high = option_and_then (λ x. option_and_then (edge_of_ends x) (id_of high)) (id_of low)
 
 -- a vertex is `ID`, and an edge is `ID-ID`
 abbrev pub member_of_parts : List (List ℕ) → Option Member
@@ -53,15 +53,15 @@ abbrev pub piece_said : List (List ℕ) → Option PieceValue
 piece_said words = option_and_then piece_made (members_said words)
 
 -- a timestamp is 1 to 20 digits
-abbrev pub stamp_of : List ℕ → Option ℕ
-stamp_of word = number_of 20 word
+abbrev pub stamp_said : List ℕ → Option ℕ
+stamp_said word = number_of 20 word
 
 -- `REM T MEMBER ..`, `NEW T MEMBER ..` or `DONE T`
 abbrev pub record_said : List (List ℕ) → Option RecordLine
-record_said (word ∷ stamp ∷ []) = if bytes_eq word (codes "DONE") then option_map (λ t. Done t) (stamp_of stamp) else None
+record_said (word ∷ stamp ∷ []) = if bytes_eq word (codes "DONE") then option_map (λ t. Done t) (stamp_said stamp) else None
 record_said (word ∷ stamp ∷ members) =
-    if bytes_eq word (codes "REM") then option_and_then (λ t. option_map (λ piece. Rem t piece) (piece_said members)) (stamp_of stamp)
-    else if bytes_eq word (codes "NEW") then option_and_then (λ t. option_map (λ piece. Add t piece) (piece_said members)) (stamp_of stamp)
+    if bytes_eq word (codes "REM") then option_and_then (λ t. option_map (λ piece. Rem t piece) (piece_said members)) (stamp_said stamp)
+    else if bytes_eq word (codes "NEW") then option_and_then (λ t. option_map (λ piece. Add t piece) (piece_said members)) (stamp_said stamp)
     else None
 record_said words = None
 

@@ -2,12 +2,12 @@
 use Rattle.std.specs.Prelude.{ℕ, List, [], ◌∷◌, ◌++◌, codes}
 use Rattle.std.specs.List.{flat_map}
 use Rattle.graph_types.specs.declared.member.Member.{Member}
-use Rattle.record_text.specs.meaning.Text.{member_text, spaced}
+use Rattle.record_text.specs.meaning.Text.{member_text, after_space}
 
 -- the members, parted by single spaces
 abbrev pub members_text : List Member → List ℕ
 members_text [] = []
-members_text (m ∷ members) = member_text m ++ flat_map (λ m. spaced (member_text m)) members
+members_text (m ∷ members) = member_text m ++ flat_map (λ m. after_space (member_text m)) members
 
 -- the members of a piece on a line of their own
 abbrev pub piece_line : List Member → List ℕ

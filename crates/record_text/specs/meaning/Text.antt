@@ -5,9 +5,9 @@ use Rattle.graph_types.specs.meaning.Graph.{Graph}
 use Rattle.graph_types.specs.declared.member.Member.{Member}
 use Rattle.graph_types.specs.declared.member.Member.TheVariants as member
 use Rattle.graph_types.specs.declared.update.Update.{Update}
-use Rattle.mining_model.specs.meaning.Step.{snapshot, after}
+use Rattle.mining_model.specs.meaning.Step.{snapshot, graph_after}
 use Rattle.mining_model.specs.meaning.Embeddings.{Pattern}
-use Rattle.mining_model.specs.meaning.Changes.{gone, come}
+use Rattle.mining_model.specs.meaning.Changes.{removed_pieces, added_pieces}
 
 -- a vertex is its number; an edge is the numbers of its ends round a dash
 abbrev pub member_text : Member → List ℕ
@@ -15,12 +15,12 @@ member_text (member.Vertex v) = decimal v
 member_text (member.Edge e) = decimal e.0 ++ codes "-" ++ decimal e.1
 
 -- a space, and then these bytes
-abbrev pub spaced : List ℕ → List ℕ
-spaced bytes = codes " " ++ bytes
+abbrev pub after_space : List ℕ → List ℕ
+after_space bytes = codes " " ++ bytes
 
 -- a word, a timestamp and the members, parted by single spaces
 abbrev pub record_line : List ℕ → ℕ → List Member → List ℕ
-record_line word t members = word ++ spaced (decimal t) ++ flat_map (λ m. spaced (member_text m)) members ++ codes "\n"
+record_line word t members = word ++ after_space (decimal t) ++ flat_map (λ m. after_space (member_text m)) members ++ codes "\n"
 
 -- a line for each piece
 abbrev pub records_text : List ℕ → ℕ → List (List Member) → List ℕ
@@ -35,7 +35,7 @@ done_text t = codes "DONE " ++ decimal t ++ codes "\n"
 
 -- the text of timestamp t, at which one graph follows another
 abbrev pub step_text : Pattern → Graph → Graph → ℕ → List ℕ
-step_text pattern before now t = delta_text t (gone pattern before now) (come pattern before now) ++ done_text t
+step_text pattern before now t = delta_text t (removed_pieces pattern before now) (added_pieces pattern before now) ++ done_text t
 
 -- the text of timestamp t of some updates
 abbrev pub text_at : Pattern → List Update → ℕ → List ℕ
@@ -49,4 +49,4 @@ text_upto pattern us (suc m) = text_upto pattern us m ++ text_at pattern us (suc
 -- the text of some updates from timestamp t + 1 on, where g is the graph before them
 abbrev pub text_from : Pattern → Graph → ℕ → List Update → List ℕ
 text_from pattern g t [] = []
-text_from pattern g t (u ∷ us) = step_text pattern g (after g u) (suc t) ++ text_from pattern (after g u) (suc t) us
+text_from pattern g t (u ∷ us) = step_text pattern g (graph_after g u) (suc t) ++ text_from pattern (graph_after g u) (suc t) us

@@ -6,7 +6,7 @@ use Rattle.job_io.specs.meaning.Lines.{lines_of, whole_lines_of}
 use Rattle.snapshot_fold.specs.declared.folding.FoldStop.{FoldStop}
 use Rattle.snapshot_fold.specs.declared.folding.FoldStop.TheVariants as stop
 use Rattle.snapshot_fold.specs.meaning.FoldText.{fold_text}
-use Rattle.snapshot_fold.specs.meaning.Folding.{folded, last_done}
+use Rattle.snapshot_fold.specs.meaning.Folding.{fold_outcome, last_done}
 
 -- the timestamp that was named, if one was, is above the last that is done
 abbrev pub IsToCome : Option ℕ → ℕ → Type 0
@@ -19,17 +19,17 @@ pub record IsUnended (most : ℕ) (at : Option ℕ) (bytes is : List ℕ) : Type
   pub taken : List ℕ
   pub split : bytes ≡ taken ++ is
   pub pieces : List PieceValue
-  pub none_refused : folded most None (whole_lines_of taken) ≡ Ok pieces
+  pub none_refused : fold_outcome most None (whole_lines_of taken) ≡ Ok pieces
   pub to_come : IsToCome at (last_done (whole_lines_of taken))
 
 -- What a fold gives, by its result: what the lines of the text come to, unless memory was wanted or the
 -- source failed. The source had left0 and has `left`, where it tells.
-abbrev pub Folds : ℕ → Option ℕ → Option (List ℕ) → Option (List ℕ) →
+abbrev pub FoldsRecords : ℕ → Option ℕ → Option (List ℕ) → Option (List ℕ) →
     Result (List PieceValue) FoldStop → Type 0
-Folds most at left0 left (Err stop.NoMemory) = Unit {0}
-Folds most at left0 left (Err stop.ReadFault) = BothKnown left0 left (IsUnended most at)
-Folds most at left0 left outcome =
-    BothKnown left0 left (λ bytes is. folded most at (lines_of bytes) ≡ outcome)
+FoldsRecords most at left0 left (Err stop.NoMemory) = Unit {0}
+FoldsRecords most at left0 left (Err stop.ReadFault) = BothKnown left0 left (IsUnended most at)
+FoldsRecords most at left0 left outcome =
+    BothKnown left0 left (λ bytes is. fold_outcome most at (lines_of bytes) ≡ outcome)
 
 -- the timestamp at which a text is folded: the one that is named, or the last that its whole lines say
 -- is done

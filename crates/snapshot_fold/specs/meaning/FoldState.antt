@@ -16,5 +16,5 @@ pub record FoldState : Type 0 where
   pub last_new : Option PieceValue
 
 -- before the first record
-abbrev pub start : FoldState
-start = record { mode = None; done = 0; settled = []; held = []; last_rem = None; last_new = None }
+abbrev pub empty_fold : FoldState
+empty_fold = record { mode = None; done = 0; settled = []; held = []; last_rem = None; last_new = None }

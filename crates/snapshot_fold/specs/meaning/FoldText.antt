@@ -5,23 +5,23 @@ use Rattle.graph_types.specs.meaning.Piece.{PieceValue}
 use Rattle.job_io.specs.meaning.Lines.{Line, whole_lines_of, without_cr}
 use Rattle.record_text.specs.meaning.Grammar.{record_of}
 use Rattle.snapshot_fold.specs.declared.fault.FoldFault.{FoldFault}
-use Rattle.snapshot_fold.specs.meaning.FoldState.{FoldState, start}
-use Rattle.snapshot_fold.specs.meaning.Taking.{taken}
+use Rattle.snapshot_fold.specs.meaning.FoldState.{FoldState, empty_fold}
+use Rattle.snapshot_fold.specs.meaning.Taking.{state_after_record}
 
-abbrev pub accepted : Result FoldState FoldFault → Option FoldState
-accepted (Ok behind) = Some behind
-accepted (Err fault) = None
+abbrev pub accepted_state : Result FoldState FoldFault → Option FoldState
+accepted_state (Ok behind) = Some behind
+accepted_state (Err fault) = None
 
 -- the fold behind a line, where the line is a record or nothing, and has no fault
-abbrev pub behind_line : FoldState → Line → Option FoldState
-behind_line s line = option_and_then (λ said. accepted (taken s said)) (record_of (without_cr line.bytes))
+abbrev pub state_after_line : FoldState → Line → Option FoldState
+state_after_line s line = option_and_then (λ said. accepted_state (state_after_record s said)) (record_of (without_cr line.bytes))
 
 -- the pieces where t is done, if some lines lead there
 abbrev pub pieces_where_done : FoldState → List Line → ℕ → Option (List PieceValue)
 pieces_where_done s [] t = None
 pieces_where_done s (line ∷ lines) t =
-    option_and_then (λ behind. if eqb behind.done t then Some behind.settled else pieces_where_done behind lines t) (behind_line s line)
+    option_and_then (λ behind. if eqb behind.done t then Some behind.settled else pieces_where_done behind lines t) (state_after_line s line)
 
 -- the pieces at timestamp t of a text, by its whole lines; none at timestamp 0
 abbrev pub fold_text : List ℕ → ℕ → Option (List PieceValue)
-fold_text text t = if eqb t 0 then Some [] else pieces_where_done start (whole_lines_of text) t
+fold_text text t = if eqb t 0 then Some [] else pieces_where_done empty_fold (whole_lines_of text) t

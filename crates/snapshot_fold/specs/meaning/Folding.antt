@@ -10,8 +10,8 @@ use Rattle.snapshot_fold.specs.declared.fault.FoldFault.{FoldFault}
 use Rattle.snapshot_fold.specs.declared.fault.FoldFault.TheVariants as fault
 use Rattle.snapshot_fold.specs.declared.folding.FoldStop.{FoldStop}
 use Rattle.snapshot_fold.specs.declared.folding.FoldStop.TheVariants as stop
-use Rattle.snapshot_fold.specs.meaning.FoldState.{FoldState, start}
-use Rattle.snapshot_fold.specs.meaning.Taking.{taken}
+use Rattle.snapshot_fold.specs.meaning.FoldState.{FoldState, empty_fold}
+use Rattle.snapshot_fold.specs.meaning.Taking.{state_after_record}
 
 -- the stop that a record's fault makes at line n
 abbrev pub stop_at : ℕ → FoldFault → FoldStop
@@ -21,22 +21,22 @@ stop_at n fault.AddsPresent = stop.AddsPresent n
 stop_at n fault.RemovesAbsent = stop.RemovesAbsent n
 stop_at n fault.NoMemory = stop.NoMemory
 
-abbrev pub taken_at : ℕ → Result FoldState FoldFault → Result FoldState FoldStop
-taken_at n (Ok behind) = Ok behind
-taken_at n (Err fault) = Err (stop_at n fault)
+abbrev pub state_or_stop : ℕ → Result FoldState FoldFault → Result FoldState FoldStop
+state_or_stop n (Ok behind) = Ok behind
+state_or_stop n (Err fault) = Err (stop_at n fault)
 
 -- line n, by what it says
-abbrev pub said_at : ℕ → FoldState → Option RecordLine → Result FoldState FoldStop
-said_at n s None = Err (stop.BadLine n)
-said_at n s (Some said) = taken_at n (taken s said)
+abbrev pub state_after_content : ℕ → FoldState → Option RecordLine → Result FoldState FoldStop
+state_after_content n s None = Err (stop.BadLine n)
+state_after_content n s (Some said) = state_or_stop n (state_after_record s said)
 
 -- The fold behind line n, where at most `most` lines are allowed, or why it stops there. A last line
 -- without LF is dropped, but its limits count.
-abbrev pub one_line : ℕ → ℕ → FoldState → Line → Result FoldState FoldStop
-one_line most n s line =
+abbrev pub state_after_one_line : ℕ → ℕ → FoldState → Line → Result FoldState FoldStop
+state_after_one_line most n s line =
     if nat_lt most n then Err (stop.TooMany n)
     else if nat_lt most_line_bytes (length line.bytes) then Err (stop.TooLong n)
-    else if line.whole then said_at n s (record_of (without_cr line.bytes))
+    else if line.whole then state_after_content n s (record_of (without_cr line.bytes))
     else Ok s
 
 -- the timestamp that was named is done
@@ -45,38 +45,38 @@ is_reached None done = false
 is_reached (Some t) done = eqb done t
 
 -- what a fold comes to where its text ends behind n whole lines
-abbrev pub at_end : Option ℕ → ℕ → FoldState → Result (List PieceValue) FoldStop
-at_end None n s = Ok s.settled
-at_end (Some t) n s = Err (stop.NotDone n)
+abbrev pub outcome_at_end : Option ℕ → ℕ → FoldState → Result (List PieceValue) FoldStop
+outcome_at_end None n s = Ok s.settled
+outcome_at_end (Some t) n s = Err (stop.NotDone n)
 
 -- what a line leads to, by what comes behind it
-abbrev pub led_on : Result FoldState FoldStop → (FoldState → Result (List PieceValue) FoldStop) →
+abbrev pub outcome_after : Result FoldState FoldStop → (FoldState → Result (List PieceValue) FoldStop) →
     Result (List PieceValue) FoldStop
-led_on (Ok behind) rest = rest behind
-led_on (Err why) rest = Err why
+outcome_after (Ok behind) rest = rest behind
+outcome_after (Err why) rest = Err why
 
 -- What the lines behind n whole ones come to. Where the timestamp that was named is done, nothing more is
 -- read.
-abbrev pub folded_from : ℕ → Option ℕ → ℕ → FoldState → List Line → Result (List PieceValue) FoldStop
-folded_from most at n s [] = if is_reached at s.done then Ok s.settled else at_end at n s
-folded_from most at n s (line ∷ lines) =
+abbrev pub fold_outcome_from : ℕ → Option ℕ → ℕ → FoldState → List Line → Result (List PieceValue) FoldStop
+fold_outcome_from most at n s [] = if is_reached at s.done then Ok s.settled else outcome_at_end at n s
+fold_outcome_from most at n s (line ∷ lines) =
     if is_reached at s.done then Ok s.settled
-    else led_on (one_line most (suc n) s line)
-    (λ behind. folded_from most at (if line.whole then suc n else n) behind lines)
+    else outcome_after (state_after_one_line most (suc n) s line)
+    (λ behind. fold_outcome_from most at (if line.whole then suc n else n) behind lines)
 
 -- what all lines of a text come to: the pieces at the timestamp that is named, or else at the last one
 -- that is done, or the first stop
-abbrev pub folded : ℕ → Option ℕ → List Line → Result (List PieceValue) FoldStop
-folded most at lines = folded_from most at 0 start lines
+abbrev pub fold_outcome : ℕ → Option ℕ → List Line → Result (List PieceValue) FoldStop
+fold_outcome most at lines = fold_outcome_from most at 0 empty_fold lines
 
 -- the last timestamp that is done behind a line
-abbrev pub done_behind : ℕ → Option RecordLine → ℕ
-done_behind t (Some (Done u)) = u
-done_behind t said = t
+abbrev pub done_after_record : ℕ → Option RecordLine → ℕ
+done_after_record t (Some (Done u)) = u
+done_after_record t said = t
 
 abbrev pub last_done_from : ℕ → List Line → ℕ
 last_done_from t [] = t
-last_done_from t (line ∷ lines) = last_done_from (done_behind t (record_of (without_cr line.bytes))) lines
+last_done_from t (line ∷ lines) = last_done_from (done_after_record t (record_of (without_cr line.bytes))) lines
 
 -- the timestamp of the last line that says that one is done, or 0
 abbrev pub last_done : List Line → ℕ

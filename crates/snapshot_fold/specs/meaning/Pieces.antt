@@ -6,18 +6,18 @@ use Rattle.std.specs.Ordering.{is_eq, is_lt}
 use Rattle.std.specs.Set.{remove_key}
 use Rattle.graph_types.specs.meaning.Piece.{PieceValue, piece_cmp}
 
-abbrev pub is_same : PieceValue → PieceValue → Bool
-is_same p q = is_eq (piece_cmp p q)
+abbrev pub is_same_piece : PieceValue → PieceValue → Bool
+is_same_piece p q = is_eq (piece_cmp p q)
 
-abbrev pub is_among : List PieceValue → PieceValue → Bool
-is_among pieces p = list_any (is_same p) pieces
+abbrev pub has_piece : List PieceValue → PieceValue → Bool
+has_piece pieces p = list_any (is_same_piece p) pieces
 
 -- with one more piece, at its place in the order
 abbrev pub with_piece : List PieceValue → PieceValue → List PieceValue
 with_piece pieces p = insert_key piece_cmp pieces p
 
 abbrev pub without_piece : List PieceValue → PieceValue → List PieceValue
-without_piece pieces p = remove_key (is_same p) pieces
+without_piece pieces p = remove_key (is_same_piece p) pieces
 
 abbrev pub last_of : List PieceValue → Option PieceValue
 last_of [] = None

@@ -9,15 +9,15 @@ use Rattle.record_text.specs.declared.read.RecordLine.TheVariants.{Nothing, Rem,
 use Rattle.snapshot_fold.specs.declared.fault.FoldFault.{FoldFault}
 use Rattle.snapshot_fold.specs.declared.fault.FoldFault.TheVariants.{MixedModes, OutOfOrder, AddsPresent, RemovesAbsent, NoMemory}
 use Rattle.snapshot_fold.specs.meaning.FoldState.{FoldState}
-use Rattle.snapshot_fold.specs.meaning.Pieces.{is_above, is_among, with_piece, without_piece}
+use Rattle.snapshot_fold.specs.meaning.Pieces.{is_above, has_piece, with_piece, without_piece}
 
-abbrev pub differs : Option Mode → Mode → Bool
-differs None mode = false
-differs (Some first) mode = not (is_eq (mode_cmp first mode))
+abbrev pub is_other_mode : Option Mode → Mode → Bool
+is_other_mode None mode = false
+is_other_mode (Some first) mode = not (is_eq (mode_cmp first mode))
 
 -- a piece was accepted before, and the first one was of another mode
 abbrev pub is_of_other_mode : FoldState → PieceValue → Bool
-is_of_other_mode s p = differs s.mode p.mode
+is_of_other_mode s p = is_other_mode s.mode p.mode
 
 -- the timestamp is the one behind the last that is done
 abbrev pub is_open : FoldState → ℕ → Bool
@@ -44,21 +44,21 @@ abbrev pub after_done : FoldState → ℕ → FoldState
 after_done s t = record s { done = t; settled = s.held; last_rem = None; last_new = None }
 
 -- the fold behind a record, or the record's first fault
-abbrev pub taken : FoldState → RecordLine → Result FoldState FoldFault
-taken s Nothing = Ok s
-taken s (Rem t p) =
+abbrev pub state_after_record : FoldState → RecordLine → Result FoldState FoldFault
+state_after_record s Nothing = Ok s
+state_after_record s (Rem t p) =
     if is_of_other_mode s p then Err MixedModes
     else if not (goes_in_order s t p) then Err OutOfOrder
-    else if is_among s.held p then Ok (after_rem s p)
+    else if has_piece s.held p then Ok (after_rem s p)
     else Err RemovesAbsent
-taken s (Add t p) =
+state_after_record s (Add t p) =
     if is_of_other_mode s p then Err MixedModes
     else if not (comes_in_order s t p) then Err OutOfOrder
-    else if is_among s.held p then Err AddsPresent
+    else if has_piece s.held p then Err AddsPresent
     else Ok (after_new s p)
-taken s (Done t) = if is_open s t then Ok (after_done s t) else Err OutOfOrder
+state_after_record s (Done t) = if is_open s t then Ok (after_done s t) else Err OutOfOrder
 
 -- a refusal is the record's first fault, or want of memory where it has none
-abbrev pub IsRefusal : Result FoldState FoldFault → FoldFault → Type 0
-IsRefusal (Ok behind) fault = fault ≡ NoMemory
-IsRefusal (Err first) fault = fault ≡ first
+abbrev pub IsRecordRefusal : Result FoldState FoldFault → FoldFault → Type 0
+IsRecordRefusal (Ok behind) fault = fault ≡ NoMemory
+IsRecordRefusal (Err first) fault = fault ≡ first

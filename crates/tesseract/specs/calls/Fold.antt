@@ -2,13 +2,13 @@
 use Rattle.std.specs.Prelude.{◌≡◌, ℕ, List, Option, Some, Ok, Err}
 use Rattle.std.specs.Io.KnownBytes.{Appends}
 use Rattle.graph_types.specs.meaning.Piece.{PieceValue, members_of_all}
-use Rattle.job_io.specs.calls.Ends.{BothKnown, AppendsFront}
+use Rattle.job_io.specs.calls.Ends.{BothKnown, AppendsPrefix}
 use Rattle.job_io.specs.meaning.Lines.{lines_of}
 use Rattle.record_text.specs.meaning.Listing.{listing_text}
 use Rattle.snapshot_fold.specs.declared.folding.FoldStop.{FoldStop}
 use Rattle.snapshot_fold.specs.declared.folding.FoldStop.TheVariants as stop
 use Rattle.snapshot_fold.specs.meaning.FoldText.{fold_text}
-use Rattle.snapshot_fold.specs.meaning.Folding.{folded}
+use Rattle.snapshot_fold.specs.meaning.Folding.{fold_outcome}
 use Rattle.snapshot_fold.specs.calls.Folds.{IsUnended, stamp_folded}
 use Rattle.tesseract.specs.declared.status.Status.{Status}
 use Rattle.tesseract.specs.declared.status.Status.TheVariants as status
@@ -30,14 +30,14 @@ stop_status (stop.TooMany n) = status.Limit limit.Lines n
 
 -- The lines come to these pieces: those that the text tells of at the timestamp that is named, or else at
 -- the last one that is done.
-pub record ComesTo (most : ℕ) (at : Option ℕ) (bytes : List ℕ) (pieces : List PieceValue) : Type 0 where
-  pub pieces_are : folded most at (lines_of bytes) ≡ Ok pieces
+pub record ComesToPieces (most : ℕ) (at : Option ℕ) (bytes : List ℕ) (pieces : List PieceValue) : Type 0 where
+  pub pieces_are : fold_outcome most at (lines_of bytes) ≡ Ok pieces
   pub told : fold_text bytes (stamp_folded at bytes) ≡ Some pieces
 
 -- The lines come to a stop, and this is how it is told.
 pub record StopsAs (most : ℕ) (at : Option ℕ) (bytes : List ℕ) (why : Status) : Type 0 where
   pub stop : FoldStop
-  pub stop_is : folded most at (lines_of bytes) ≡ Err stop
+  pub stop_is : fold_outcome most at (lines_of bytes) ≡ Err stop
   pub why_is : why ≡ stop_status stop
 
 -- a line for each piece
@@ -51,10 +51,10 @@ abbrev pub Folds : ℕ → Option ℕ → Option (List ℕ) → Option (List ℕ
     Option (List ℕ) → Status → Type 0
 Folds most at left0 left written0 written status.Ok =
     BothKnown left0 left (λ bytes is.
-    (pieces : List PieceValue) × ComesTo most at bytes pieces × Appends written0 written (pieces_text pieces))
+    (pieces : List PieceValue) × ComesToPieces most at bytes pieces × Appends written0 written (pieces_text pieces))
 Folds most at left0 left written0 written status.WriteFault =
     BothKnown left0 left (λ bytes is.
-    (pieces : List PieceValue) × ComesTo most at bytes pieces × AppendsFront written0 written (pieces_text pieces))
+    (pieces : List PieceValue) × ComesToPieces most at bytes pieces × AppendsPrefix written0 written (pieces_text pieces))
 Folds most at left0 left written0 written status.NoMemory = written ≡ written0
 Folds most at left0 left written0 written status.ReadFault =
     (written ≡ written0) × BothKnown left0 left (IsUnended most at)

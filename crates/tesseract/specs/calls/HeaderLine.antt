@@ -11,10 +11,10 @@ use Rattle.tesseract.specs.declared.header.HeaderTurn.TheVariants.{More, Ready}
 use Rattle.tesseract.specs.storage.HeaderSoFar.{HeaderSoFar}
 
 -- line n leads on, or it has this fault
-abbrev pub HeadsOn : ℕ → HeaderSoFar → List ℕ → Result HeaderTurn ProgramFault → Type 0
-HeadsOn n h text (Ok (More next)) =
+abbrev pub TakesHeaderLine : ℕ → HeaderSoFar → List ℕ → Result HeaderTurn ProgramFault → Type 0
+TakesHeaderLine n h text (Ok (More next)) =
     header_said h.reader text h.names ≡ Ok (step.More next.reader, next.names)
-HeadsOn n h text (Ok (Ready names program)) =
+TakesHeaderLine n h text (Ok (Ready names program)) =
     header_said h.reader text h.names ≡ Ok (step.Ready program, names)
-HeadsOn n h text (Err fault) =
+TakesHeaderLine n h text (Err fault) =
     (after : Names) × AnswersLine {A = HeaderStep} n h.names (header_said h.reader text h.names) (Err fault) after

@@ -6,10 +6,10 @@ use Rattle.graph_types.specs.declared.update.Update.{Update}
 use Rattle.job_io.specs.meaning.Lines.{without_cr}
 use Rattle.mining_model.specs.meaning.Step.{Refusal}
 use Rattle.cond_eval.specs.meaning.Patterns.{pattern_of}
-use Rattle.mining_model.specs.meaning.Changes.{gone, come}
+use Rattle.mining_model.specs.meaning.Changes.{removed_pieces, added_pieces}
 use Rattle.record_text.specs.meaning.Text.{delta_text, done_text}
 use Rattle.line_fields.specs.meaning.Names.{Names}
-use Rattle.update_reader.specs.meaning.Grammar.{said}
+use Rattle.update_reader.specs.meaning.Grammar.{content_of_line}
 use Rattle.program_grammar.specs.declared.fault.ProgramFault.{ProgramFault}
 use Rattle.program_grammar.specs.declared.fault.ProgramFault.TheVariants as fault
 use Rattle.program_grammar.specs.meaning.Header.{header_said}
@@ -24,8 +24,8 @@ use Rattle.tesseract.specs.declared.status.Status.{Status}
 use Rattle.tesseract.specs.declared.status.Status.TheVariants as status
 use Rattle.tesseract.specs.declared.status.ProgramKind.TheVariants as program
 use Rattle.tesseract.specs.storage.HeaderSoFar.{HeaderSoFar}
-use Rattle.tesseract.specs.storage.Mining.{Mining}
-use Rattle.tesseract.specs.meaning.Job.{Stage, heading, streaming, kind_of, judged_header, judged_said}
+use Rattle.tesseract.specs.storage.Mining.{MiningState}
+use Rattle.tesseract.specs.meaning.Job.{Stage, heading, streaming, input_kind_of, header_judgement, content_judgement}
 use Rattle.tesseract.specs.meaning.Job.{refused, moved, accepted}
 
 -- where the reading of a job stands
@@ -34,45 +34,45 @@ stage_of (Heading h) = heading h.reader h.names
 stage_of (Streaming names m) = streaming (pattern_of m.program) names m.graph
 
 -- its last timestamp, or 0
-abbrev pub stamp_of : Job → ℕ
-stamp_of (Heading h) = 0
-stamp_of (Streaming names m) = m.stamp
+abbrev pub job_stamp : Job → ℕ
+job_stamp (Heading h) = 0
+job_stamp (Streaming names m) = m.stamp
 
 -- The job ends at line n, since the graph refused an update so.
-pub record IsRefusal (n : ℕ) (stepped : Result Graph Refusal) (why : Status) : Type 0 where
+pub record IsStepRefusal (n : ℕ) (stepped : Result Graph Refusal) (why : Status) : Type 0 where
   pub refusal : Refusal
   pub stepped_is : stepped ≡ Err refusal
-  pub why_is : why ≡ status.BadInput n (kind_of refusal)
+  pub why_is : why ≡ status.BadInput n (input_kind_of refusal)
 
 -- How the job ends at line n where this fault is the reason to refuse a step.
 abbrev pub StopsFor : ℕ → StepFault → Stop → Type 0
 StopsFor n fault stop.NoMemory = Unit {0}
 StopsFor n fault (stop.Refused why) =
-    (stepped : Result Graph Refusal) → IsReason stepped fault → IsRefusal n stepped why
+    (stepped : Result Graph Refusal) → IsReason stepped fault → IsStepRefusal n stepped why
 
 -- Line n says an update that is accepted, and these are its changes.
-pub record IsTaken (n : ℕ) (names : Names) (m : Mining) (text : List ℕ) (job : Job) (changes : Changes) :
+pub record IsTaken (n : ℕ) (names : Names) (m : MiningState) (text : List ℕ) (job : Job) (changes : Changes) :
     Type 0 where
   pub update : Update
   pub later : Names
   pub now : Graph
   pub accepted_is :
-      judged_said n (pattern_of m.program) names m.graph (said names text)
+      content_judgement n (pattern_of m.program) names m.graph (content_of_line names text)
       ≡ accepted update (pattern_of m.program) later now
   pub stage_is : stage_of job ≡ streaming (pattern_of m.program) later now
-  pub stamp_is : stamp_of job ≡ suc m.stamp
-  pub rem : members_of_all changes.rem ≡ gone (pattern_of m.program) m.graph now
-  pub add : members_of_all changes.add ≡ come (pattern_of m.program) m.graph now
+  pub stamp_is : job_stamp job ≡ suc m.stamp
+  pub rem : members_of_all changes.rem ≡ removed_pieces (pattern_of m.program) m.graph now
+  pub add : members_of_all changes.add ≡ added_pieces (pattern_of m.program) m.graph now
 
 -- Line n of a stream says nothing, or leads to a job with changes, or is refused.
-abbrev pub TakesUpdate : ℕ → Names → Mining → List ℕ → Result (Job × Option Changes) Stop → Type 0
+abbrev pub TakesUpdate : ℕ → Names → MiningState → List ℕ → Result (Job × Option Changes) Stop → Type 0
 TakesUpdate n names m text (Ok (job, None)) =
-    (judged_said n (pattern_of m.program) names m.graph (said names text) ≡ moved (stage_of job))
-    × (stamp_of job ≡ m.stamp)
+    (content_judgement n (pattern_of m.program) names m.graph (content_of_line names text) ≡ moved (stage_of job))
+    × (job_stamp job ≡ m.stamp)
 TakesUpdate n names m text (Ok (job, Some changes)) = IsTaken n names m text job changes
 TakesUpdate n names m text (Err stop.NoMemory) = Unit {0}
 TakesUpdate n names m text (Err (stop.Refused why)) =
-    judged_said n (pattern_of m.program) names m.graph (said names text) ≡ refused why
+    content_judgement n (pattern_of m.program) names m.graph (content_of_line names text) ≡ refused why
 
 -- How the job ends at line n of its header, where this fault was found in it.
 abbrev pub header_stop : ℕ → ProgramFault → Stop
@@ -87,16 +87,16 @@ header_stop n fault.NoMemory = stop.NoMemory
 -- Line n of a header leads on, or is refused.
 abbrev pub TakesHeader : ℕ → HeaderSoFar → List ℕ → Result (Job × Option Changes) Stop → Type 0
 TakesHeader n h text (Ok (job, None)) =
-    (judged_header n (header_said h.reader text h.names) ≡ moved (stage_of job)) × (stamp_of job ≡ 0)
+    (header_judgement n (header_said h.reader text h.names) ≡ moved (stage_of job)) × (job_stamp job ≡ 0)
 TakesHeader n h text (Ok (job, Some changes)) = ⊥
 TakesHeader n h text (Err stop.NoMemory) = Unit {0}
 TakesHeader n h text (Err (stop.Refused why)) =
-    judged_header n (header_said h.reader text h.names) ≡ refused why
+    header_judgement n (header_said h.reader text h.names) ≡ refused why
 
 -- Line n, with its CR, is taken by a job.
-abbrev pub Takes : ℕ → Job → List ℕ → Result (Job × Option Changes) Stop → Type 0
-Takes n (Heading h) line result = TakesHeader n h (without_cr line) result
-Takes n (Streaming names m) line result = TakesUpdate n names m (without_cr line) result
+abbrev pub TakesJobLine : ℕ → Job → List ℕ → Result (Job × Option Changes) Stop → Type 0
+TakesJobLine n (Heading h) line result = TakesHeader n h (without_cr line) result
+TakesJobLine n (Streaming names m) line result = TakesUpdate n names m (without_cr line) result
 
 -- the text of a timestamp with these changes; nothing where there is none
 abbrev pub changes_text : ℕ → Option Changes → List ℕ

@@ -1,23 +1,23 @@
 -- What a run leaves: on its sink, by how it ended, and on standard error.
 use Rattle.std.specs.Prelude.{◌≡◌, ℕ, ◌⊎◌, List, ◌++◌, Option, None}
 use Rattle.std.specs.Io.KnownBytes.{Appends}
-use Rattle.job_io.specs.calls.Ends.{BothKnown, AppendsFront, Rose}
+use Rattle.job_io.specs.calls.Ends.{BothKnown, AppendsPrefix, HasRisen}
 use Rattle.job_io.specs.meaning.Lines.{lines_of, whole_lines_of}
 use Rattle.tesseract.specs.declared.status.Status.{Status}
 use Rattle.tesseract.specs.declared.status.Status.TheVariants as status
-use Rattle.tesseract.specs.meaning.Job.{verdict, text_of, end_of}
+use Rattle.tesseract.specs.meaning.Job.{verdict, job_text, job_end}
 
 -- The whole input was judged: this is its text, and this is how its job ends.
 pub record IsJob (most : ℕ) (bytes text : List ℕ) (why : Status) : Type 0 where
-  pub text_is : text ≡ text_of (verdict most (lines_of bytes))
-  pub end_is : why ≡ end_of (verdict most (lines_of bytes))
+  pub text_is : text ≡ job_text (verdict most (lines_of bytes))
+  pub end_is : why ≡ job_end (verdict most (lines_of bytes))
 
 -- The source failed after it gave some of the input: this is the text of the lines whose LF it
 -- gave, and none of them is refused.
-pub record IsFrontOfJob (most : ℕ) (bytes is text : List ℕ) : Type 0 where
+pub record IsPrefixOfJob (most : ℕ) (bytes is text : List ℕ) : Type 0 where
   pub taken : List ℕ
   pub split : bytes ≡ taken ++ is
-  pub text_is : text ≡ text_of (verdict most (whole_lines_of taken))
+  pub text_is : text ≡ job_text (verdict most (whole_lines_of taken))
   pub no_stop : (verdict most (whole_lines_of taken)).stop ≡ None
 
 -- The input's text is written, and the status is how its job ends.
@@ -32,23 +32,23 @@ abbrev pub WritesUnread : ℕ → Option (List ℕ) → Option (List ℕ) → Op
     Option (List ℕ) → Type 0
 WritesUnread most left0 left written0 written =
     BothKnown left0 left (λ bytes is.
-    (text : List ℕ) × IsFrontOfJob most bytes is text × Appends written0 written text)
+    (text : List ℕ) × IsPrefixOfJob most bytes is text × Appends written0 written text)
 
 -- A front of the input's text is written.
-abbrev pub WritesFront : ℕ → Option (List ℕ) → Option (List ℕ) → Option (List ℕ) →
+abbrev pub WritesPrefix : ℕ → Option (List ℕ) → Option (List ℕ) → Option (List ℕ) →
     Option (List ℕ) → Type 0
-WritesFront most left0 left written0 written =
+WritesPrefix most left0 left written0 written =
     BothKnown left0 left (λ bytes is.
-    AppendsFront written0 written (text_of (verdict most (lines_of bytes))))
+    AppendsPrefix written0 written (job_text (verdict most (lines_of bytes))))
 
 -- What mining leaves, by its status. The source had left0 and has `left`, the sink had written0 and
 -- has `written`, where they tell; at most `most` lines are allowed.
 abbrev pub Mines : ℕ → Option (List ℕ) → Option (List ℕ) → Option (List ℕ) → Option (List ℕ) →
     Status → Type 0
 Mines most left0 left written0 written status.NoMemory =
-    WritesFront most left0 left written0 written
+    WritesPrefix most left0 left written0 written
 Mines most left0 left written0 written status.WriteFault =
-    WritesFront most left0 left written0 written
+    WritesPrefix most left0 left written0 written
 Mines most left0 left written0 written status.ReadFault =
     WritesUnread most left0 left written0 written
 Mines most left0 left written0 written why = WritesAll most left0 left written0 written why
@@ -56,4 +56,4 @@ Mines most left0 left written0 written why = WritesAll most left0 left written0 
 -- The line is told in full, or in part where the sink failed.
 abbrev pub Tells : Option (List ℕ) → Option (List ℕ) → ℕ → ℕ → List ℕ → Type 0
 Tells old new before now line =
-    Appends old new line ⊎ (Rose before now × AppendsFront old new line)
+    Appends old new line ⊎ (HasRisen before now × AppendsPrefix old new line)

@@ -4,9 +4,9 @@ use Rattle.job_io.specs.calls.Ends.{BothKnown, PassesOn}
 use Rattle.job_io.specs.meaning.Lines.{Line, Reading, lines_of, whole_lines_of, GivesEnd, StopsInLine}
 use Rattle.tesseract.specs.declared.status.Status.{Status}
 use Rattle.tesseract.specs.declared.status.Status.TheVariants as status
-use Rattle.tesseract.specs.meaning.Job.{Stage, refused, judged, ended, verdict, text_of, end_of}
-use Rattle.tesseract.specs.calls.Progress.{Reached}
-use Rattle.tesseract.specs.calls.Run.{IsJob, IsFrontOfJob}
+use Rattle.tesseract.specs.meaning.Job.{Stage, refused, judgement, verdict_at_end, verdict, job_text, job_end}
+use Rattle.tesseract.specs.calls.Progress.{HasReached}
+use Rattle.tesseract.specs.calls.Run.{IsJob, IsPrefixOfJob}
 
 -- The lines so far are all that LFs ended in the bytes given: whatever follows them adds its own.
 pub record WholeSoFar (bytes is : List ℕ) (gone : List Line) (reader : Reading) : Type 0 where
@@ -17,7 +17,7 @@ pub record WholeSoFar (bytes is : List ℕ) (gone : List Line) (reader : Reading
       whole_lines_of (given ++ more) ≡ gone ++ whole_lines_of more
 
 -- The last line was given, and no LF ended it.
-pub record IsBehindLast (is : List ℕ) (reader : Reading) : Type 0 where
+pub record IsAfterLast (is : List ℕ) (reader : Reading) : Type 0 where
   pub unfinished : reader.line.whole ≡ false
   pub nothing : reader.held ++ is ≡ []
 
@@ -27,11 +27,11 @@ pub record AtLine (most : ℕ) (bytes is text : List ℕ) (reader : Reading) (st
     Type 0 where
   pub gone : List Line
   pub lines : lines_of bytes ≡ gone ++ lines_of (reader.held ++ is)
-  pub reached : Reached most gone text reader.number t stage
-  pub whole : WholeSoFar bytes is gone reader ⊎ IsBehindLast is reader
+  pub reached : HasReached most gone text reader.number t stage
+  pub whole : WholeSoFar bytes is gone reader ⊎ IsAfterLast is reader
 
 -- What a run has come to between two lines, since its source had left0 and its sink had written0.
-pub record Running (most : ℕ) (left0 left written0 written : Option (List ℕ)) (page : List ℕ)
+pub record IsRunning (most : ℕ) (left0 left written0 written : Option (List ℕ)) (page : List ℕ)
     (reader : Reading) (stage : Stage) (t : ℕ) : Type 0 where
   pub text : List ℕ
   pub passed : PassesOn written0 [] written page text
@@ -41,7 +41,7 @@ pub record Running (most : ℕ) (left0 left written0 written : Option (List ℕ)
 pub record EndsClean (old new : Reading) (was is : List ℕ) (stage : Stage) (why : Status) :
     Type 0 where
   pub gives_end : GivesEnd old new was is
-  pub why_is : why ≡ end_of (ended old.number stage None)
+  pub why_is : why ≡ job_end (verdict_at_end old.number stage None)
 
 -- The job ends at the next line, which is refused.
 pub record EndsRefused (most : ℕ) (to_come : List ℕ) (n : ℕ) (stage : Stage) (why : Status) :
@@ -49,7 +49,7 @@ pub record EndsRefused (most : ℕ) (to_come : List ℕ) (n : ℕ) (stage : Stag
   pub line : Line
   pub others : List Line
   pub follows : lines_of to_come ≡ line ∷ others
-  pub refused_is : judged most (suc n) stage line.bytes ≡ refused why
+  pub refused_is : judgement most (suc n) stage line.bytes ≡ refused why
 
 -- The job ends because the source failed.
 pub record EndsUnread (old new : Reading) (was is : List ℕ) (why : Status) : Type 0 where
@@ -57,8 +57,8 @@ pub record EndsUnread (old new : Reading) (was is : List ℕ) (why : Status) : T
   pub stops : StopsInLine old new was is
 
 -- Why a job ends after some lines.
-abbrev pub Ends : ℕ → Reading → Reading → List ℕ → List ℕ → Stage → Status → Type 0
-Ends most old new was is stage why =
+abbrev pub EndsJob : ℕ → Reading → Reading → List ℕ → List ℕ → Stage → Status → Type 0
+EndsJob most old new was is stage why =
     EndsClean old new was is stage why
     ⊎ (EndsRefused most (old.held ++ was) old.number stage why
     ⊎ (EndsUnread old new was is why ⊎ (why ≡ status.NoMemory)))
@@ -77,15 +77,15 @@ IfUnread status.NoMemory unread read = Unit {0}
 IfUnread why unread read = read
 
 -- `text` is a front of the input's text.
-abbrev pub IsFrontOfText : ℕ → List ℕ → List ℕ → Type 0
-IsFrontOfText most bytes text =
-    (more : List ℕ) × (text_of (verdict most (lines_of bytes)) ≡ text ++ more)
+abbrev pub IsPrefixOfText : ℕ → List ℕ → List ℕ → Type 0
+IsPrefixOfText most bytes text =
+    (more : List ℕ) × (job_text (verdict most (lines_of bytes)) ≡ text ++ more)
 
 -- What a run has when it ends: its text, passed on but for what the page holds.
-pub record Ended (most : ℕ) (left0 left written0 written : Option (List ℕ)) (page : List ℕ)
+pub record HasEnded (most : ℕ) (left0 left written0 written : Option (List ℕ)) (page : List ℕ)
     (why : Status) : Type 0 where
   pub text : List ℕ
   pub passed : PassesOn written0 [] written page text
-  pub front : BothKnown left0 left (λ bytes is. IsFrontOfText most bytes text)
+  pub front : BothKnown left0 left (λ bytes is. IsPrefixOfText most bytes text)
   pub job : BothKnown left0 left (λ bytes is.
-      IfUnread why (IsFrontOfJob most bytes is text) (IsJob most bytes text why))
+      IfUnread why (IsPrefixOfJob most bytes is text) (IsJob most bytes text why))

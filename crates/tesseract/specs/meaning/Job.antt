@@ -9,7 +9,7 @@ use Rattle.mining_model.specs.meaning.Step.{Refusal, is_loop, no_vertex, vertex_
 use Rattle.mining_model.specs.meaning.Embeddings.{Pattern}
 use Rattle.record_text.specs.meaning.Text.{text_upto}
 use Rattle.line_fields.specs.meaning.Names.{Names, first_names}
-use Rattle.update_reader.specs.meaning.Grammar.{Said, nothing, commit, update, too_many_labels, bad_line, said}
+use Rattle.update_reader.specs.meaning.Grammar.{LineContent, nothing, commit, update, too_many_labels, bad_line, content_of_line}
 use Rattle.cond_eval.specs.meaning.Patterns.{pattern_of}
 use Rattle.program_grammar.specs.declared.fault.Refusal.{Refusal as HeaderRefusal}
 use Rattle.program_grammar.specs.declared.fault.Refusal.TheVariants as why
@@ -17,7 +17,7 @@ use Rattle.program_grammar.specs.declared.header.HeaderReader.{HeaderReader}
 use Rattle.program_grammar.specs.declared.header.HeaderReader.TheVariants as header
 use Rattle.program_grammar.specs.declared.header.HeaderStep.{HeaderStep}
 use Rattle.program_grammar.specs.declared.header.HeaderStep.TheVariants.{More, Ready}
-use Rattle.program_grammar.specs.meaning.Header.{awaited, header_said}
+use Rattle.program_grammar.specs.meaning.Header.{awaited_word, header_said}
 use Rattle.tesseract.specs.declared.status.Status.{Status}
 use Rattle.tesseract.specs.declared.status.Status.TheVariants as status
 use Rattle.tesseract.specs.declared.status.ProgramKind.{ProgramKind}
@@ -37,10 +37,10 @@ abbrev pub first_stage : Stage
 first_stage = heading header.Mode first_names
 
 -- what a line does: it is refused, it leads on, or it is an update that the graph accepts
-pub data Judged : Type 0 where
-  refused : Status → Judged
-  moved : Stage → Judged
-  accepted : Update → Pattern → Names → Graph → Judged
+pub data Judgement : Type 0 where
+  refused : Status → Judgement
+  moved : Stage → Judgement
+  accepted : Update → Pattern → Names → Graph → Judgement
 
 -- the kind of a refusal of a header
 abbrev pub program_kind_of : HeaderRefusal → ProgramKind
@@ -51,46 +51,46 @@ program_kind_of why.TooDeep = program.TooDeep
 program_kind_of why.NotFalling = program.NotFalling
 
 -- a line of the header, by what it says
-abbrev pub judged_header : ℕ → Result (HeaderStep × Names) HeaderRefusal → Judged
-judged_header n (Ok (More next, names)) = moved (heading next names)
-judged_header n (Ok (Ready program, names)) = moved (streaming (pattern_of program) names empty_graph)
-judged_header n (Err refusal) = refused (status.BadProgram n (program_kind_of refusal))
+abbrev pub header_judgement : ℕ → Result (HeaderStep × Names) HeaderRefusal → Judgement
+header_judgement n (Ok (More next, names)) = moved (heading next names)
+header_judgement n (Ok (Ready program, names)) = moved (streaming (pattern_of program) names empty_graph)
+header_judgement n (Err refusal) = refused (status.BadProgram n (program_kind_of refusal))
 
 -- the kind of a refusal by the graph
-abbrev pub kind_of : Refusal → InputKind
-kind_of is_loop = input.Loop
-kind_of (no_vertex v) = input.NoVertex v
-kind_of vertex_exists = input.VertexExists
-kind_of edge_exists = input.EdgeExists
-kind_of no_edge = input.NoEdge
+abbrev pub input_kind_of : Refusal → InputKind
+input_kind_of is_loop = input.Loop
+input_kind_of (no_vertex v) = input.NoVertex v
+input_kind_of vertex_exists = input.VertexExists
+input_kind_of edge_exists = input.EdgeExists
+input_kind_of no_edge = input.NoEdge
 
 -- an update, by what the graph makes of it
-abbrev pub judged_step : ℕ → Pattern → Names → Update → Result Graph Refusal → Judged
-judged_step n pattern names u (Ok after) = accepted u pattern names after
-judged_step n pattern names u (Err refusal) = refused (status.BadInput n (kind_of refusal))
+abbrev pub step_judgement : ℕ → Pattern → Names → Update → Result Graph Refusal → Judgement
+step_judgement n pattern names u (Ok after) = accepted u pattern names after
+step_judgement n pattern names u (Err refusal) = refused (status.BadInput n (input_kind_of refusal))
 
 -- A line of the stream, by what it says. A line that says nothing changes nothing, and neither does
 -- `commit`, since each update is mined as it comes.
-abbrev pub judged_said : ℕ → Pattern → Names → Graph → Said → Judged
-judged_said n pattern names g nothing = moved (streaming pattern names g)
-judged_said n pattern names g commit = moved (streaming pattern names g)
-judged_said n pattern names g (update u later) = judged_step n pattern later u (step g u)
-judged_said n pattern names g too_many_labels = refused (status.Limit limit.Labels n)
-judged_said n pattern names g bad_line = refused (status.BadInput n input.BadLine)
+abbrev pub content_judgement : ℕ → Pattern → Names → Graph → LineContent → Judgement
+content_judgement n pattern names g nothing = moved (streaming pattern names g)
+content_judgement n pattern names g commit = moved (streaming pattern names g)
+content_judgement n pattern names g (update u later) = step_judgement n pattern later u (step g u)
+content_judgement n pattern names g too_many_labels = refused (status.Limit limit.Labels n)
+content_judgement n pattern names g bad_line = refused (status.BadInput n input.BadLine)
 
 -- line n, which has at most the bytes that a line may have
-abbrev pub judged_line : ℕ → Stage → List ℕ → Judged
-judged_line n (heading next names) bytes =
-    judged_header n (header_said next (without_cr bytes) names)
-judged_line n (streaming pattern names g) bytes =
-    judged_said n pattern names g (said names (without_cr bytes))
+abbrev pub line_judgement : ℕ → Stage → List ℕ → Judgement
+line_judgement n (heading next names) bytes =
+    header_judgement n (header_said next (without_cr bytes) names)
+line_judgement n (streaming pattern names g) bytes =
+    content_judgement n pattern names g (content_of_line names (without_cr bytes))
 
 -- line n, where at most `most` lines are allowed
-abbrev pub judged : ℕ → ℕ → Stage → List ℕ → Judged
-judged most n stage bytes =
+abbrev pub judgement : ℕ → ℕ → Stage → List ℕ → Judgement
+judgement most n stage bytes =
     if nat_lt most n then refused (status.Limit limit.Lines n)
     else if nat_lt most_line_bytes (length bytes) then refused (status.Limit limit.LineBytes n)
-    else judged_line n stage bytes
+    else line_judgement n stage bytes
 
 -- What reading a job gives: the program, where its header is whole; the updates that were accepted;
 -- the refusal that stopped it, if a line was refused; and how it ends if none was.
@@ -101,15 +101,15 @@ pub record Verdict : Type 0 where
   pub close : Status
 
 -- nothing more is read behind n lines
-abbrev pub ended : ℕ → Stage → Option Status → Verdict
-ended n (heading next names) stop =
+abbrev pub verdict_at_end : ℕ → Stage → Option Status → Verdict
+verdict_at_end n (heading next names) stop =
     record {
       pattern = None;
       updates = [];
       stop = stop;
-      close = status.BadProgram n (program.Missing (awaited next));
+      close = status.BadProgram n (program.Missing (awaited_word next));
     }
-ended n (streaming pattern names g) stop =
+verdict_at_end n (streaming pattern names g) stop =
     record { pattern = Some pattern; updates = []; stop = stop; close = status.Ok }
 
 -- u was accepted before all that
@@ -118,24 +118,24 @@ with_update u v =
     record { pattern = v.pattern; updates = u ∷ v.updates; stop = v.stop; close = v.close }
 
 -- what comes of a line behind n others, and of those behind it
-abbrev pub led_on : ℕ → Stage → Judged → (Stage → Verdict) → Verdict
-led_on n stage (refused why) rest = ended n stage (Some why)
-led_on n stage (moved next) rest = rest next
-led_on n stage (accepted u pattern names g) rest = with_update u (rest (streaming pattern names g))
+abbrev pub verdict_after : ℕ → Stage → Judgement → (Stage → Verdict) → Verdict
+verdict_after n stage (refused why) rest = verdict_at_end n stage (Some why)
+verdict_after n stage (moved next) rest = rest next
+verdict_after n stage (accepted u pattern names g) rest = with_update u (rest (streaming pattern names g))
 
 -- The lines behind n others, where at most `most` are allowed. The first that is refused ends all.
-abbrev pub judge : ℕ → ℕ → Stage → List Line → Verdict
-judge most n stage [] = ended n stage None
-judge most n stage (line ∷ lines) =
-    led_on n stage (judged most (suc n) stage line.bytes) (λ next. judge most (suc n) next lines)
+abbrev pub verdict_from : ℕ → ℕ → Stage → List Line → Verdict
+verdict_from most n stage [] = verdict_at_end n stage None
+verdict_from most n stage (line ∷ lines) =
+    verdict_after n stage (judgement most (suc n) stage line.bytes) (λ next. verdict_from most (suc n) next lines)
 
 -- the verdict on a whole job
 abbrev pub verdict : ℕ → List Line → Verdict
-verdict most lines = judge most 0 first_stage lines
+verdict most lines = verdict_from most 0 first_stage lines
 
 -- how a job ends
-abbrev pub end_of : Verdict → Status
-end_of v = unwrap_or v.stop v.close
+abbrev pub job_end : Verdict → Status
+job_end v = unwrap_or v.stop v.close
 
 -- the text of timestamps 1 to the number of updates; nothing without a program
 abbrev pub text_under : Option Pattern → List Update → List ℕ
@@ -143,5 +143,5 @@ text_under None us = []
 text_under (Some pattern) us = text_upto pattern us (length us)
 
 -- what is written for a job
-abbrev pub text_of : Verdict → List ℕ
-text_of v = text_under v.pattern v.updates
+abbrev pub job_text : Verdict → List ℕ
+job_text v = text_under v.pattern v.updates

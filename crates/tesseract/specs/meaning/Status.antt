@@ -12,15 +12,15 @@ use Rattle.tesseract.specs.declared.status.LimitKind.{LimitKind}
 use Rattle.tesseract.specs.declared.status.LimitKind.TheVariants as limit
 
 -- the exit status
-abbrev pub number_of : Status → ℕ
-number_of status.Ok = 0
-number_of status.NoMemory = 1
-number_of status.Usage = 2
-number_of (status.BadProgram line kind) = 3
-number_of (status.BadInput line kind) = 4
-number_of (status.Limit kind at) = 5
-number_of status.ReadFault = 6
-number_of status.WriteFault = 7
+abbrev pub exit_number : Status → ℕ
+exit_number status.Ok = 0
+exit_number status.NoMemory = 1
+exit_number status.Usage = 2
+exit_number (status.BadProgram line kind) = 3
+exit_number (status.BadInput line kind) = 4
+exit_number (status.Limit kind at) = 5
+exit_number status.ReadFault = 6
+exit_number status.WriteFault = 7
 
 -- a word as a header has it
 abbrev pub word_text : Word → List ℕ
@@ -58,15 +58,15 @@ limit_kind limit.Labels = codes "Labels"
 limit_kind limit.LineBytes = codes "LineBytes"
 
 -- the line on standard error; there is none where a run ended well
-abbrev pub line_of : Status → List ℕ
-line_of status.Ok = []
-line_of status.NoMemory = codes "no memory\n"
-line_of status.Usage = codes "usage: tesseract COMMAND [--NAME VALUE]\n"
-line_of (status.BadProgram line kind) =
+abbrev pub status_line : Status → List ℕ
+status_line status.Ok = []
+status_line status.NoMemory = codes "no memory\n"
+status_line status.Usage = codes "usage: tesseract COMMAND [--NAME VALUE]\n"
+status_line (status.BadProgram line kind) =
     codes "program: line " ++ decimal line ++ codes ": " ++ program_kind kind ++ codes "\n"
-line_of (status.BadInput line kind) =
+status_line (status.BadInput line kind) =
     codes "input: line " ++ decimal line ++ codes ": " ++ input_kind kind ++ codes "\n"
-line_of (status.Limit kind at) =
+status_line (status.Limit kind at) =
     codes "limit: " ++ limit_kind kind ++ codes " " ++ decimal at ++ codes "\n"
-line_of status.ReadFault = codes "read fault\n"
-line_of status.WriteFault = codes "write fault\n"
+status_line status.ReadFault = codes "read fault\n"
+status_line status.WriteFault = codes "write fault\n"

@@ -8,13 +8,13 @@ use Rattle.filter_polarity.specs.meaning.Program.{ProgramValue}
 use Rattle.cond_eval.specs.meaning.Patterns.{pattern_of}
 
 -- what is mined for, the graph now, and the last timestamp
-pub record Mining : Type 0 where
+pub record MiningState : Type 0 where
   pub program : ProgramValue
   pub graph : Graph
   pub stamp : ℕ
 
 -- it is stored as the tuple of its fields
-abbrev pub mining_code : Coded ProgramValue → Coded Mining
+abbrev pub mining_code : Coded ProgramValue → Coded MiningState
 mining_code program_code =
     code_by (ProgramValue × (Graph × ℕ)) (coded× program_code (coded× graph_code coded_ℕ))
     (λ m. (m.program, (m.graph, m.stamp)))

@@ -6,29 +6,29 @@ use Rattle.update_reader.specs.declared.Item.TheVariants as item
 use Rattle.update_reader.specs.declared.UpdateFault.{UpdateFault}
 use Rattle.update_reader.specs.declared.UpdateFault.TheVariants as fault
 use Rattle.line_fields.specs.meaning.Names.{Names}
-use Rattle.update_reader.specs.meaning.Grammar.{Said, nothing, commit, update, too_many_labels, bad_line, Form, labelled_form, vertex_form, edge_form, said_by, said}
+use Rattle.update_reader.specs.meaning.Grammar.{LineContent, nothing, commit, update, too_many_labels, bad_line, Form, labelled_form, vertex_form, edge_form, content_of_form, content_of_line}
 
 -- it is an update that brings a new name
-abbrev pub BringsName : Names → Said → Type 0
+abbrev pub BringsName : Names → LineContent → Type 0
 BringsName old (update u new) = length old < length new
 BringsName old other = ⊥
 
 -- The answer to what was said, and the names then. Memory is wanted only for a new name.
-abbrev pub Gives : Names → Said → Result Item UpdateFault → Names → Type 0
-Gives old what (Ok item.Nothing) new = (new ≡ old) × (what ≡ nothing)
-Gives old what (Ok item.Commit) new = (new ≡ old) × (what ≡ commit)
-Gives old what (Ok (item.Update u)) new = what ≡ update u new
-Gives old what (Err fault.BadLine) new = (new ≡ old) × (what ≡ bad_line)
-Gives old what (Err fault.TooManyLabels) new = (new ≡ old) × (what ≡ too_many_labels)
-Gives old what (Err fault.NoMemory) new = (new ≡ old) × BringsName old what
+abbrev pub AnswersContent : Names → LineContent → Result Item UpdateFault → Names → Type 0
+AnswersContent old what (Ok item.Nothing) new = (new ≡ old) × (what ≡ nothing)
+AnswersContent old what (Ok item.Commit) new = (new ≡ old) × (what ≡ commit)
+AnswersContent old what (Ok (item.Update u)) new = what ≡ update u new
+AnswersContent old what (Err fault.BadLine) new = (new ≡ old) × (what ≡ bad_line)
+AnswersContent old what (Err fault.TooManyLabels) new = (new ≡ old) × (what ≡ too_many_labels)
+AnswersContent old what (Err fault.NoMemory) new = (new ≡ old) × BringsName old what
 
 -- the names before, a line whose CR was dropped, the answer, the names then
-abbrev pub Reads : Names → List ℕ → Result Item UpdateFault → Names → Type 0
-Reads old line result new = Gives old (said old line) result new
+abbrev pub ReadsLine : Names → List ℕ → Result Item UpdateFault → Names → Type 0
+ReadsLine old line result new = AnswersContent old (content_of_line old line) result new
 
 -- words of this form say the same
 abbrev pub ReadsForm : Names → Form → Result Item UpdateFault → Names → Type 0
-ReadsForm old form result new = Gives old (said_by old form) result new
+ReadsForm old form result new = AnswersContent old (content_of_form old form) result new
 
 -- an answer by the update that is made of what was read
 abbrev pub answer_with : {X : Type 0} → (X → Update) → Result X UpdateFault → Result Item UpdateFault

@@ -7,18 +7,18 @@ use Rattle.graph_types.specs.declared.update.Update.TheVariants.{AddVertex, Remo
 use Rattle.line_fields.specs.meaning.Fields.{words_of, id_of, is_label_word, is_nothing_line}
 use Rattle.update_reader.specs.declared.keyword.Keyword.{Keyword}
 use Rattle.update_reader.specs.declared.keyword.Keyword.TheVariants as keyword
-use Rattle.line_fields.specs.meaning.Names.{Names, no_name, interned}
+use Rattle.line_fields.specs.meaning.Names.{Names, no_name, interning}
 
 -- what a line of the stream says
-pub data Said : Type 0 where
+pub data LineContent : Type 0 where
   -- it is blank or a comment
-  nothing : Said
-  commit : Said
+  nothing : LineContent
+  commit : LineContent
   -- an update, and the names then
-  update : Update → Names → Said
+  update : Update → Names → LineContent
   -- an update whose label is new, and there is no room for its name
-  too_many_labels : Said
-  bad_line : Said
+  too_many_labels : LineContent
+  bad_line : LineContent
 
 -- the form of a line's words: an update waits for the number of its label
 pub data Form : Type 0 where
@@ -71,25 +71,25 @@ form_with keyword.LabelEdge (from ∷ to ∷ label ∷ []) = edge_form (λ x y l
 form_with keyword.Commit [] = commit_form
 form_with word fields = no_form
 
-abbrev pub form_behind : Option Keyword → List (List ℕ) → Form
-form_behind (Some word) fields = form_with word fields
-form_behind None fields = no_form
+abbrev pub form_after_keyword : Option Keyword → List (List ℕ) → Form
+form_after_keyword (Some word) fields = form_with word fields
+form_after_keyword None fields = no_form
 
 abbrev pub form_of : List (List ℕ) → Form
 form_of [] = no_form
-form_of (word ∷ fields) = form_behind (keyword_of word) fields
+form_of (word ∷ fields) = form_after_keyword (keyword_of word) fields
 
 -- an update whose label has the number that interning its name gives
-abbrev pub said_labelled : (ℕ → Update) → Option (ℕ × Names) → Said
-said_labelled make (Some with_number) = update (make with_number.0) with_number.1
-said_labelled make None = too_many_labels
+abbrev pub content_of_labelled : (ℕ → Update) → Option (ℕ × Names) → LineContent
+content_of_labelled make (Some with_number) = update (make with_number.0) with_number.1
+content_of_labelled make None = too_many_labels
 
-abbrev pub said_by : Names → Form → Said
-said_by names commit_form = commit
-said_by names (unlabelled u) = update u names
-said_by names (labelled make label) = said_labelled make (interned names label)
-said_by names no_form = bad_line
+abbrev pub content_of_form : Names → Form → LineContent
+content_of_form names commit_form = commit
+content_of_form names (unlabelled u) = update u names
+content_of_form names (labelled make label) = content_of_labelled make (interning names label)
+content_of_form names no_form = bad_line
 
 -- what a line says whose CR was dropped, after the labels that were seen so far
-abbrev pub said : Names → List ℕ → Said
-said names line = if is_nothing_line line then nothing else said_by names (form_of (words_of line))
+abbrev pub content_of_line : Names → List ℕ → LineContent
+content_of_line names line = if is_nothing_line line then nothing else content_of_form names (form_of (words_of line))

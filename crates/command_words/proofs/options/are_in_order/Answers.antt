@@ -1,12 +1,12 @@
 use Rattle.std.proofs.Common.{◌≡◌, map, string_bytes, sym, ap, ◌∙◌}
-use Rattle.command_words.specs.meaning.Words.{setting, settings_of}
+use Rattle.command_words.specs.meaning.Words.{setting_of, settings_of}
 use Rattle.command_words.proofs.Order.{out_of_order, in_order_as_later}
 use Rattle.command_words.proofs.Splitting.{after, first_and_rest}
 use Rattle.command_words.proofs.options.are_in_order.Goals as goal
 
 pub returns-then-not-fits : goal.returns-then-not-fits
 returns-then-not-fits c =
-    let s = setting c.in-Some.setting.name.now c.in-Some.setting.value.now in
+    let s = setting_of c.in-Some.setting.name.now c.in-Some.setting.value.now in
     let rest = map string_bytes c.loop-rest.rest.now in
     let later = map string_bytes c.in-Some.later.now in
     let first : settings_of rest ≡ after s later =
@@ -15,7 +15,7 @@ returns-then-not-fits c =
 
 pub loop-rest-preserved : goal.loop-rest-preserved
 loop-rest-preserved c =
-    let s = setting c.in-Some.setting.name.now c.in-Some.setting.value.now in
+    let s = setting_of c.in-Some.setting.name.now c.in-Some.setting.value.now in
     let rest = map string_bytes c.loop-rest.rest.now in
     let later = map string_bytes c.in-Some.later.now in
     let first : settings_of rest ≡ after s later =

@@ -1,12 +1,12 @@
 use Rattle.std.proofs.Common.{◌≡◌, false, map, string_bytes, sym, ap, ◌∙◌}
 use Rattle.std.specs.Str.{bytes_eq}
-use Rattle.command_words.specs.meaning.Words.{setting, settings_of}
+use Rattle.command_words.specs.meaning.Words.{setting_of, settings_of}
 use Rattle.command_words.proofs.Splitting.{after, first_and_rest, value_named-later}
 use Rattle.command_words.proofs.settings.value_named.Goals as goal
 
 pub loop-rest-preserved : goal.loop-rest-preserved
 loop-rest-preserved c = λ settings are.
-    let s = setting c.in_ok-setting.setting.name.now c.in_ok-setting.setting.value.now in
+    let s = setting_of c.in_ok-setting.setting.name.now c.in_ok-setting.setting.value.now in
     let rest = map string_bytes c.loop-rest.rest.now in
     let later = map string_bytes c.in_ok-setting.later.now in
     let first : settings_of rest ≡ after s later =

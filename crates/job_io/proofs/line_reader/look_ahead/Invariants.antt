@@ -1,11 +1,11 @@
 use Rattle.std.proofs.Common.{◌≡◌, ◌≤◌, ◌-◌, length, Contains}
 use Rattle.job_io.specs.meaning.Lines.{lf}
-use Rattle.job_io.specs.calls.Reading.{Takes}
+use Rattle.job_io.specs.calls.Reading.{MovesBytes}
 use Rattle.job_io.proofs.line_reader.look_ahead.Given as goal
 
 abbrev pub invariant-loop-ahead : goal.invariant-loop-ahead
 invariant-loop-ahead g l = record {
-  taken : Takes l.initial.buffer.held l.buffer.held (g.S.Source.left l.initial.src) (g.S.Source.left l.src);
+  taken : MovesBytes l.initial.buffer.held l.buffer.held (g.S.Source.left l.initial.src) (g.S.Source.left l.src);
   unasked : Contains l.initial.buffer.held lf → (l.src ≡ l.initial.src) × (l.buffer.held ≡ l.initial.buffer.held);
   kept : g.S.Source.faults l.initial.src ≤ g.S.Source.faults l.src;
 }

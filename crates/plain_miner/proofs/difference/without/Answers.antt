@@ -1,6 +1,6 @@
 use Rattle.std.proofs.Common.{◌++◌, ◌∷◌, [], take_all, sym, ap, ◌∙◌}
 use Rattle.graph_types.specs.meaning.Piece.{members_of_all}
-use Rattle.plain_miner.specs.meaning.Pieces.{pieces_without}
+use Rattle.plain_miner.specs.meaning.Pieces.{piece_difference}
 use Rattle.plain_miner.proofs.SameMembers.{members_of_all-without, pieces_without-other, pieces_without-same}
 use Rattle.plain_miner.proofs.difference.without.Goals as goal
 use Rattle.plain_miner.proofs.difference.without.Goals.{then-not-is_among+in_ok-push, else-not-is_among}
@@ -22,5 +22,5 @@ pub returns-clause-members : goal.returns-clause-members
 returns-clause-members c =
     let pieces = c.args.pieces.now in
     let others = c.args.others.now in
-    ap members_of_all (c.loop-piece.invariant ∙ ap (λ pieces. pieces_without pieces others) (take_all c.loop-piece.piece-index pieces c.loop-piece-test.false))
+    ap members_of_all (c.loop-piece.invariant ∙ ap (λ pieces. piece_difference pieces others) (take_all c.loop-piece.piece-index pieces c.loop-piece-test.false))
     ∙ members_of_all-without pieces others

@@ -1,5 +1,5 @@
 use Rattle.std.proofs.Common.{◌≡◌, ◌+◌, ◌⊎◌, drop}
-use Rattle.program_grammar.specs.meaning.Programs.{LinesFit, LinesStarve, RoomFor, lines_said, program_said}
+use Rattle.program_grammar.specs.meaning.Programs.{LinesFit, LinesRunOut, RoomFor, lines_said, program_said}
 use Rattle.line_fields.specs.meaning.Names.{Names}
 use Rattle.program_grammar.specs.declared.header.HeaderReader.TheVariants as header
 use Rattle.program_grammar.proofs.program.read_program.Given as goal
@@ -9,5 +9,5 @@ abbrev pub invariant-loop-i : goal.invariant-loop-i
 invariant-loop-i l = record {
   same : program_said l.lines l.fn.names ≡ lines_said l.header (l.i + 1) (drop l.i l.lines) l.names;
   room : RoomFor l.header l.names ⊎ LinesFit l.header (drop l.i l.lines) l.names;
-  starved : (new : Names) → LinesStarve l.header (drop l.i l.lines) l.names new → LinesStarve header.Mode l.lines l.fn.names new;
+  starved : (new : Names) → LinesRunOut l.header (drop l.i l.lines) l.names new → LinesRunOut header.Mode l.lines l.fn.names new;
 }

@@ -1,7 +1,7 @@
 use Rattle.std.proofs.Common.{Ok, sym, ap, subst, ◌∙◌, arith}
 use Rattle.std.proofs.lemmas.Result.{err_from_is_err_and}
-use Rattle.snapshot_fold.specs.meaning.Folding.{is_reached, at_end}
-use Rattle.snapshot_fold.specs.calls.Reading.{Gives, TakesLine}
+use Rattle.snapshot_fold.specs.meaning.Folding.{is_reached, outcome_at_end}
+use Rattle.snapshot_fold.specs.calls.Reading.{IsOutcome, TakesLine}
 use Rattle.snapshot_fold.proofs.Going.{Stands-start, Stands-next, Stands-reached, Stands-ends, Stands-stops}
 use Rattle.snapshot_fold.proofs.folding.fold_lines.Goals as goal
 
@@ -36,7 +36,7 @@ returns-then-not-branch-clause-folds g c =
     (g.S.Source.left c.take_line.new.input) (Ok b)) c.if-not-branch.true c.in_ok-take_line.ensures.takes in
     Stands-ends c.args.most_lines c.args.at _ _ _ c.lines.reader c.take_line.new.reader c.lines.fold c.take_line.new.fold later
     c.lines.invariant.stands c.end.result ends
-    (subst (λ n. Gives c.end.result (at_end c.args.at n c.take_line.new.fold)) c.number-whole_lines.ensures c.end.ensures.gives)
+    (subst (λ n. IsOutcome c.end.result (outcome_at_end c.args.at n c.take_line.new.fold)) c.number-whole_lines.ensures c.end.ensures.gives)
 
 pub lines-preserved : goal.lines-preserved
 lines-preserved g c =

@@ -2,8 +2,8 @@ use Rattle.std.proofs.Common.{◌≡◌, Ok, sym, subst, ap, ◌∙◌}
 use Rattle.std.specs.List.Sorted.{IsStrictlySortedBy}
 use Rattle.graph_types.specs.meaning.Piece.{piece_cmp}
 use Rattle.job_io.specs.meaning.Lines.{lines_of}
-use Rattle.snapshot_fold.specs.meaning.FoldState.{start}
-use Rattle.snapshot_fold.specs.meaning.Folding.{folded}
+use Rattle.snapshot_fold.specs.meaning.FoldState.{empty_fold}
+use Rattle.snapshot_fold.specs.meaning.Folding.{fold_outcome}
 use Rattle.snapshot_fold.proofs.Known.{BothKnown-same}
 use Rattle.snapshot_fold.proofs.Told.{folded_from-reached}
 use Rattle.snapshot_fold.proofs.Going.{Folds-told}
@@ -11,8 +11,8 @@ use Rattle.snapshot_fold.proofs.folding.fold_records.Goals as goal
 
 pub returns-then-is_reached-clause-folds : goal.returns-then-is_reached-clause-folds
 returns-then-is_reached-clause-folds g c =
-    BothKnown-same (λ bytes is. folded c.args.most_lines c.args.at (lines_of bytes) ≡ Ok c.new.result) (g.S.Source.left c.args.input.now) (λ bytes.
-    folded_from-reached c.args.most_lines c.args.at 0 start (lines_of bytes) (sym c.is_reached.ensures ∙ c.if-is_reached.true)
+    BothKnown-same (λ bytes is. fold_outcome c.args.most_lines c.args.at (lines_of bytes) ≡ Ok c.new.result) (g.S.Source.left c.args.input.now) (λ bytes.
+    folded_from-reached c.args.most_lines c.args.at 0 empty_fold (lines_of bytes) (sym c.is_reached.ensures ∙ c.if-is_reached.true)
     ∙ ap Ok (sym c.new.ensures))
 
 pub returns-then-is_reached-clause-ascending : goal.returns-then-is_reached-clause-ascending

@@ -1,5 +1,5 @@
 use Rattle.std.proofs.Common.{◌≡◌, ◌<◌, arith, ap, sym, subst, ◌∙◌}
-use Rattle.graph_types.specs.storage.Adjacency.{IsUndirected, undirected}
+use Rattle.graph_types.specs.storage.Adjacency.{IsUndirected, undirected_graph}
 use Rattle.graph_types.specs.meaning.Graph.{has_edge, with_edge, without_edge}
 use Rattle.graph_types.proofs.Undirected.{end_is_there, put_both, put_undone, IsUndirected-put_both}
 use Rattle.graph_types.proofs.snapshot.Snapshot.put_edge.Goals as goal
@@ -22,7 +22,7 @@ pub invariant_of-self-in-Err : goal.invariant_of-self-in-Err
 invariant_of-self-in-Err c = subst IsUndirected (sym (arcs_undone c)) c.self.invariant
 
 pub returns-in-Err-clause-err : goal.returns-in-Err-clause-err
-returns-in-Err-clause-err c = ap undirected (arcs_undone c) ∙ c.self.view_is
+returns-in-Err-clause-err c = ap undirected_graph (arcs_undone c) ∙ c.self.view_is
 
 pub invariant_of-self-in_default : goal.invariant_of-self-in_default
 invariant_of-self-in_default c =
@@ -35,6 +35,6 @@ invariant_of-self-in_default c =
 pub returns-clause-ok : goal.returns-clause-ok
 returns-clause-ok c =
     let below : c.a-low.result < c.b-high.result = omega (arith, c.a-low.ensures.ordered, c.b-high.ensures.higher) in
-    ap undirected (c.in_default.ensures.ok ∙ ap (λ g. with_edge g (c.b-high.result, c.a-low.result) c.args.l) c.in_ok-put_edge.ensures.ok)
+    ap undirected_graph (c.in_default.ensures.ok ∙ ap (λ g. with_edge g (c.b-high.result, c.a-low.result) c.args.l) c.in_ok-put_edge.ensures.ok)
     ∙ put_both c.self.inside.arcs _ _ below c.args.l
     ∙ (λ i. with_edge (c.self.view_is i) (c.a-low.ensures.lower i, c.b-high.ensures.higher i) c.args.l)

@@ -1,5 +1,5 @@
 use Rattle.std.proofs.Common.{◌≡◌, ◌≤◌, ◌-◌, length, take, sym, ◌∙◌, ap, arith, length-take, length-drop}
-use Rattle.job_io.specs.storage.LineBuffer.{Buffered}
+use Rattle.job_io.specs.storage.LineBuffer.{BufferValue}
 use Rattle.job_io.proofs.BlockOf.{take-copy_within, length-slice_range, slice_range-filled}
 use Rattle.job_io.proofs.line_buffer.LineBuffer.refill.Goals as goal
 
@@ -9,7 +9,7 @@ returns-clause-taken g c =
     let kept = b.end - b.start in
     let count = c.in_ok-count.count in
     let whole : b.end ≤ length b.bytes.items = omega arith in
-    let held = ap (λ (v : Buffered). v.held) c.self.view_is in
+    let held = ap (λ (v : BufferValue). v.held) c.self.view_is in
     let is_kept = length-slice_range b.bytes.items b.start b.end whole in
     let moved = c.deref_mut.ensures.value ∙ c.copy_within.ensures.items in
     let front = ap (take kept) moved ∙ take-copy_within b.bytes.items b.start b.end whole ∙ held in

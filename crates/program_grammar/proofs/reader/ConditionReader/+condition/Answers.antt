@@ -4,7 +4,7 @@ use Rattle.conditions.specs.declared.condition.Cond.{Cond}
 use Rattle.conditions.specs.declared.condition.Cond.TheOpen as form
 use Rattle.conditions.specs.declared.condition.Cond.TheViews.{roll-Cond}
 use Rattle.program_grammar.specs.meaning.Token.{word}
-use Rattle.program_grammar.specs.meaning.Grammar.{◌>>=◌, cond_within, conj, neg, inside}
+use Rattle.program_grammar.specs.meaning.Grammar.{◌>>=◌, cond_within, conj, neg, nested_within}
 use Rattle.program_grammar.proofs.Chaining.{Reads-err, Reads-refused, conj-first, cond-first, chain_stop, chain_more, chain_fail, neg-opened, neg-full, negated, atom-opened, atom-full, closed, closed-passed, closed-missed}
 use Rattle.program_grammar.proofs.reader.ConditionReader.+condition.Goals as goal
 
@@ -24,7 +24,7 @@ pub neg-returns-in_err-operand-clause-reads : goal.neg-returns-in_err-operand-cl
 neg-returns-in_err-operand-clause-reads t c =
     let p = err_from_is_err_and c.from_residual-in_err-operand.result c.from_residual-in_err-operand.ensures.1 in
     Reads-err c.from_residual-in_err-operand.result c.in_err-operand.field-0.0 c.neg.new.self c.neg.new.self
-    (neg (inside c.in_ok-room.room) c.takes.new.self.tokens c.takes.new.self.names) _ (p.1 ∙ ap Err p.2) c.in_err-operand.ensures.reads
+    (neg (nested_within c.in_ok-room.room) c.takes.new.self.tokens c.takes.new.self.names) _ (p.1 ∙ ap Err p.2) c.in_err-operand.ensures.reads
     (λ f read. neg-opened c.args.room c.in_ok-room.room c.args.self.now c.takes.new.self c.in_ok-room.ensures c.if-takes.ensures ∙ ap (λ r. r >>= negated) read)
 
 pub neg-returns-then-takes-clause-reads : goal.neg-returns-then-takes-clause-reads
@@ -44,7 +44,7 @@ pub atom-returns-in_err-cond-clause-reads : goal.atom-returns-in_err-cond-clause
 atom-returns-in_err-cond-clause-reads t c =
     let p = err_from_is_err_and c.from_residual-in_err-cond.result c.from_residual-in_err-cond.ensures.1 in
     Reads-err c.from_residual-in_err-cond.result c.in_err-cond.field-0.0 c.cond.new.self c.cond.new.self
-    (cond_within (inside c.in_ok-room.room) c.takes-3.new.self.tokens c.takes-3.new.self.names) _ (p.1 ∙ ap Err p.2) c.in_err-cond.ensures.reads
+    (cond_within (nested_within c.in_ok-room.room) c.takes-3.new.self.tokens c.takes-3.new.self.names) _ (p.1 ∙ ap Err p.2) c.in_err-cond.ensures.reads
     (λ f read. atom-opened c.args.self.now c.takes.new.self c.takes-2.new.self c.takes-3.new.self c.if-takes.ensures c.if-takes-2.ensures c.if-takes-3.ensures c.args.room c.in_ok-room.room c.in_ok-room.ensures
     ∙ ap (λ r. r >>= closed) read)
 
@@ -66,7 +66,7 @@ pub conj-loop-alloc-init : goal.conj-loop-alloc-init
 conj-loop-alloc-init t c = record {
   turns = length c.neg.new.self.tokens;
   enough = omega arith;
-  same = conj-first (inside c.args.room) c.args.self.now.tokens c.neg.new.self.tokens c.args.self.now.names c.neg.new.self.names c.in_ok-left.left c.in_ok-left.ensures.reads;
+  same = conj-first (nested_within c.args.room) c.args.self.now.tokens c.neg.new.self.tokens c.args.self.now.names c.neg.new.self.names c.in_ok-left.left c.in_ok-left.ensures.reads;
   shorter = c.in_ok-left.ensures.goes_on.shorter;
   known = c.in_ok-left.ensures.goes_on.known;
 }
@@ -76,8 +76,8 @@ conj-returns-in_err-right-clause-reads t c =
     let p = err_from_is_err_and c.from_residual-in_err-right.result c.from_residual-in_err-right.ensures.1 in
     let l = c.loop-alloc in
     Reads-err c.from_residual-in_err-right.result c.in_err-right.field-0.0 c.neg-in-loop-alloc.new.self c.neg-in-loop-alloc.new.self
-    (neg (inside c.args.room) c.takes.new.self.tokens c.takes.new.self.names) _ (p.1 ∙ ap Err p.2) c.in_err-right.ensures.reads
-    (λ f read. l.invariant.same ∙ chain_fail (word (codes "and")) and (neg (inside c.args.room)) l.invariant.turns l.left l.self c.takes.new.self l.invariant.enough c.loop-alloc-test.ensures f read)
+    (neg (nested_within c.args.room) c.takes.new.self.tokens c.takes.new.self.names) _ (p.1 ∙ ap Err p.2) c.in_err-right.ensures.reads
+    (λ f read. l.invariant.same ∙ chain_fail (word (codes "and")) and (neg (nested_within c.args.room)) l.invariant.turns l.left l.self c.takes.new.self l.invariant.enough c.loop-alloc-test.ensures f read)
 
 pub conj-loop-alloc-preserved : goal.conj-loop-alloc-preserved
 conj-loop-alloc-preserved t c =
@@ -87,7 +87,7 @@ conj-loop-alloc-preserved t c =
     record {
       turns = l.invariant.turns - 1;
       enough = omega (arith, l.invariant.enough, passes.shorter, on.shorter);
-      same = l.invariant.same ∙ chain_more (word (codes "and")) and (neg (inside c.args.room)) l.invariant.turns l.left l.self c.takes.new.self l.invariant.enough passes
+      same = l.invariant.same ∙ chain_more (word (codes "and")) and (neg (nested_within c.args.room)) l.invariant.turns l.left l.self c.takes.new.self l.invariant.enough passes
           c.in_ok-right.right c.in_ok-left-2.left c.neg-in-loop-alloc.new.self c.in_ok-right.ensures.reads c.in_ok-left-2.ensures;
       shorter = omega (arith, l.invariant.shorter, passes.shorter, on.shorter);
       known = on.known ∙ passes.known ∙ l.invariant.known;
@@ -96,13 +96,13 @@ conj-loop-alloc-preserved t c =
 pub conj-returns-clause-reads : goal.conj-returns-clause-reads
 conj-returns-clause-reads t c =
     let l = c.loop-alloc in
-    l.invariant.same ∙ chain_stop (word (codes "and")) and (neg (inside c.args.room)) l.invariant.turns l.left l.self c.takes.new.self c.loop-alloc-test.ensures
+    l.invariant.same ∙ chain_stop (word (codes "and")) and (neg (nested_within c.args.room)) l.invariant.turns l.left l.self c.takes.new.self c.loop-alloc-test.ensures
 
 pub cond-loop-alloc-init : goal.cond-loop-alloc-init
 cond-loop-alloc-init t c = record {
   turns = length c.conj.new.self.tokens;
   enough = omega arith;
-  same = cond-first (inside c.args.room) c.args.self.now.tokens c.conj.new.self.tokens c.args.self.now.names c.conj.new.self.names c.in_ok-left.left c.in_ok-left.ensures.reads;
+  same = cond-first (nested_within c.args.room) c.args.self.now.tokens c.conj.new.self.tokens c.args.self.now.names c.conj.new.self.names c.in_ok-left.left c.in_ok-left.ensures.reads;
   shorter = c.in_ok-left.ensures.goes_on.shorter;
   known = c.in_ok-left.ensures.goes_on.known;
 }
@@ -112,8 +112,8 @@ cond-returns-in_err-right-clause-reads t c =
     let p = err_from_is_err_and c.from_residual-in_err-right.result c.from_residual-in_err-right.ensures.1 in
     let l = c.loop-alloc in
     Reads-err c.from_residual-in_err-right.result c.in_err-right.field-0.0 c.conj-in-loop-alloc.new.self c.conj-in-loop-alloc.new.self
-    (conj (inside c.args.room) c.takes.new.self.tokens c.takes.new.self.names) _ (p.1 ∙ ap Err p.2) c.in_err-right.ensures.reads
-    (λ f read. l.invariant.same ∙ chain_fail (word (codes "or")) or (conj (inside c.args.room)) l.invariant.turns l.left l.self c.takes.new.self l.invariant.enough c.loop-alloc-test.ensures f read)
+    (conj (nested_within c.args.room) c.takes.new.self.tokens c.takes.new.self.names) _ (p.1 ∙ ap Err p.2) c.in_err-right.ensures.reads
+    (λ f read. l.invariant.same ∙ chain_fail (word (codes "or")) or (conj (nested_within c.args.room)) l.invariant.turns l.left l.self c.takes.new.self l.invariant.enough c.loop-alloc-test.ensures f read)
 
 pub cond-loop-alloc-preserved : goal.cond-loop-alloc-preserved
 cond-loop-alloc-preserved t c =
@@ -123,7 +123,7 @@ cond-loop-alloc-preserved t c =
     record {
       turns = l.invariant.turns - 1;
       enough = omega (arith, l.invariant.enough, passes.shorter, on.shorter);
-      same = l.invariant.same ∙ chain_more (word (codes "or")) or (conj (inside c.args.room)) l.invariant.turns l.left l.self c.takes.new.self l.invariant.enough passes
+      same = l.invariant.same ∙ chain_more (word (codes "or")) or (conj (nested_within c.args.room)) l.invariant.turns l.left l.self c.takes.new.self l.invariant.enough passes
           c.in_ok-right.right c.in_ok-left-2.left c.conj-in-loop-alloc.new.self c.in_ok-right.ensures.reads c.in_ok-left-2.ensures;
       shorter = omega (arith, l.invariant.shorter, passes.shorter, on.shorter);
       known = on.known ∙ passes.known ∙ l.invariant.known;
@@ -132,4 +132,4 @@ cond-loop-alloc-preserved t c =
 pub cond-returns-clause-reads : goal.cond-returns-clause-reads
 cond-returns-clause-reads t c =
     let l = c.loop-alloc in
-    l.invariant.same ∙ chain_stop (word (codes "or")) or (conj (inside c.args.room)) l.invariant.turns l.left l.self c.takes.new.self c.loop-alloc-test.ensures
+    l.invariant.same ∙ chain_stop (word (codes "or")) or (conj (nested_within c.args.room)) l.invariant.turns l.left l.self c.takes.new.self c.loop-alloc-test.ensures

@@ -1,5 +1,5 @@
 use Rattle.std.proofs.Common.{◌≡◌, ℕ, ◌+◌, ◌*◌, ◌≤◌, length}
-use Rattle.program_grammar.specs.meaning.Grammar.{and_chain, or_chain, cond_within, conj, inside}
+use Rattle.program_grammar.specs.meaning.Grammar.{and_chain, or_chain, cond_within, conj, nested_within}
 use Rattle.program_grammar.proofs.reader.ConditionReader.+condition.Given as goal
 
 abbrev pub decreases-atom : goal.decreases-atom
@@ -19,7 +19,7 @@ abbrev pub invariant-cond-loop-alloc : goal.invariant-cond-loop-alloc
 invariant-cond-loop-alloc l = record {
   turns : ℕ;
   enough : length l.self.tokens ≤ turns;
-  same : cond_within (inside l.room) l.fn.self.tokens l.fn.self.names ≡ or_chain (inside l.room) turns l.left l.self.tokens l.self.names;
+  same : cond_within (nested_within l.room) l.fn.self.tokens l.fn.self.names ≡ or_chain (nested_within l.room) turns l.left l.self.tokens l.self.names;
   shorter : length l.self.tokens ≤ length l.fn.self.tokens;
   known : l.self.known ≡ l.fn.self.known;
 }
@@ -31,7 +31,7 @@ abbrev pub invariant-conj-loop-alloc : goal.invariant-conj-loop-alloc
 invariant-conj-loop-alloc l = record {
   turns : ℕ;
   enough : length l.self.tokens ≤ turns;
-  same : conj (inside l.room) l.fn.self.tokens l.fn.self.names ≡ and_chain (inside l.room) turns l.left l.self.tokens l.self.names;
+  same : conj (nested_within l.room) l.fn.self.tokens l.fn.self.names ≡ and_chain (nested_within l.room) turns l.left l.self.tokens l.self.names;
   shorter : length l.self.tokens ≤ length l.fn.self.tokens;
   known : l.self.known ≡ l.fn.self.known;
 }

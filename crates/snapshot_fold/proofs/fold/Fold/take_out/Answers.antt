@@ -1,5 +1,5 @@
 use Rattle.std.proofs.Common.{sym, ap, ◌∙◌}
-use Rattle.snapshot_fold.specs.meaning.Pieces.{is_among}
+use Rattle.snapshot_fold.specs.meaning.Pieces.{has_piece}
 use Rattle.snapshot_fold.proofs.Steps.{after_rem_is, on_ok}
 use Rattle.snapshot_fold.proofs.fold.Fold.take_out.Goals as goal
 
@@ -13,7 +13,7 @@ invariant_of-self-2 c =
 pub returns-clause-ok : goal.returns-clause-ok
 returns-clause-ok c =
     let there = sym c.remove.ensures.test ∙ c.if-not-remove.false in (
-      ap (λ s. is_among s.held c.args.piece.now) (sym c.self.view_is) ∙ there,
+      ap (λ s. has_piece s.held c.args.piece.now) (sym c.self.view_is) ∙ there,
       (after_rem_is c.args.self.now c.self.inside.mode c.self.inside.done c.self.inside.pieces.keys c.self.inside.went c.self.inside.came c.self.view_is c.self.invariant
           c.args.piece.now c.mode.result c.remove.new.self.keys c.push.new.self c.requires.first c.requires.above
           there c.remove.ensures.keys

@@ -1,11 +1,11 @@
 use Rattle.std.proofs.Common.{◌≡◌, ◌∙◌, ℕ, ap}
-use Rattle.tesseract.specs.storage.Mining.{Mining}
+use Rattle.tesseract.specs.storage.Mining.{MiningState}
 use Rattle.tesseract.proofs.Making.{IsMade-from}
 use Rattle.tesseract.proofs.miner.Miner.make.Goals as goal
 
 pub returns : goal.returns
 returns c =
-    let mining : ℕ → Mining =
+    let mining : ℕ → MiningState =
     λ t. record { program = c.self.inside.program; graph = c.self.inside.graph; stamp = t } in
     let old_is : mining c.stamp.inside.0 ≡ c.args.self =
     ap mining c.stamp.view_is ∙ c.self.view_is in
