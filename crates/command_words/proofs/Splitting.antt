@@ -1,4 +1,4 @@
--- The first setting of some words, and what is behind it.
+-- The first setting of some words, and what is after it.
 use Rattle.std.proofs.Common.{◌≡◌, ℕ, suc, ◌+◌, ◌-◌, ◌≤◌, false, List, [], ◌∷◌, Option, None, Some, length, get_or, take, drop, if◌then◌else◌, refl, sym, ap, ◌∙◌, arith}
 use Rattle.std.specs.Option.{option_map, option_and_then}
 use Rattle.std.specs.List.{position}
@@ -50,7 +50,7 @@ pub first_and_rest : {X : Type 0} (items : List X) (x : X) → 1 ≤ length item
 first_and_rest [] x some is = absurd (omega (arith, some))
 first_and_rest (y ∷ items) x some is = (λ i. sym is i ∷ sym (take_all (suc (length items) - 1) items (omega arith)) i)
 
--- what a name is given stands behind a setting of another name
+-- what a name is given stands after a setting of another name
 pub value_named-later : (name : List ℕ) (s : Setting) (words later : List (List ℕ)) (settings : List Setting) → settings_of words ≡ after s later → bytes_eq s.name name ≡ false → settings_of words ≡ Some settings →
     (left : List Setting) × (settings_of later ≡ Some left) × (value_named name settings ≡ value_named name left)
 value_named-later name s words later settings first other are =

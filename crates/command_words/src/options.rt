@@ -12,7 +12,7 @@ const DIGITS: usize = 10;
 /// The largest timestamp that `--at` takes.
 const MOST_AT: u64 = 4_000_000_000;
 
-/// The options that the words behind a command give.
+/// The options that the words after a command give.
 pub fn read_options(verb: Verb, words: &[String]) -> Option<Options>
     ensures { result ≡ options_of_words verb (map string_bytes words.now) }
 {

@@ -10,7 +10,7 @@ pub struct Setting<'a> {
     pub value: &'a [u8],
 }
 
-/// The setting that a word begins, and the words behind it: `--name=value`, or `--name` with the next word
+/// The setting that a word begins, and the words after it: `--name=value`, or `--name` with the next word
 /// as the value, whatever that begins with.
 pub fn split_setting<'a>(
     word: &'a String,
@@ -56,7 +56,7 @@ pub fn value_named<'a>(name: &[u8], words: &'a [String]) -> Option<&'a [u8]>
     None
 }
 
-/// What stands behind `--`.
+/// What stands after `--`.
 fn behind_dashes(word: &[u8]) -> Option<&[u8]>
     ensures { option_map (λ text. text.now) result ≡ text_behind_dashes word.now }
 {
@@ -66,7 +66,7 @@ fn behind_dashes(word: &[u8]) -> Option<&[u8]>
     }
 }
 
-/// The name before the first `=`, and the value behind it.
+/// The name before the first `=`, and the value after it.
 fn split_at_equals(text: &[u8]) -> Option<Setting<'_>>
     ensures { option_map (λ s. setting_of s.name.now s.value.now) result ≡ setting_of_text text.now }
 {

@@ -15,7 +15,7 @@ const fn fold(at: Option<u64>) -> Command {
     }
 }
 
-/// The words of a text in which a space stands between each two. A last space has an empty word behind it.
+/// The words of a text in which a space stands between each two. A last space has an empty word after it.
 fn words_of(alloc: Global, text: &str) -> Result<Vec<String>, AllocError> {
     let mut words = Vec::new(alloc);
     if !text.is_empty() {

@@ -5,7 +5,7 @@ use crate::command::{Command, Verb, WordsFault};
 use crate::options::read_options;
 use std::alloc::Global;
 
-/// The command that the words behind the program's name give. It goes over them a few times for each
+/// The command that the words after the program's name give. It goes over them a few times for each
 /// option. The allocator is for options that keep bytes; there are none yet, and no memory is taken.
 pub fn read_words(_alloc: Global, words: &[String]) -> Result<Command, WordsFault>
     ensures { MatchResult result

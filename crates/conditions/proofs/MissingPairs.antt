@@ -62,7 +62,7 @@ module _ {K X : Type 0} (R : K → K → Ordering) where
       let parts = and_parts (below_all R e.0 es) _ h in
       (λ i. false≢true (sym (ap is_lt (tied_itself total e.0)) ∙ below_each e.0 es e.0 parts.0 i), distinct_keys total es parts.1)
 
--- each item is below those behind it
+-- each item is below those after it
 abbrev Rises : List ℕ → Type 0
 Rises [] = Unit {0}
 Rises (x ∷ xs) = ((y : ℕ) → IsIn y xs → x < y) × Rises xs

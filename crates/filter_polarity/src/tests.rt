@@ -257,7 +257,7 @@ fn nots(alloc: Global, count: usize, mut cond: Cond) -> Result<Cond, Fail> {
     Ok(cond)
 }
 
-/// So many times `and true` behind a condition: two tokens for each.
+/// So many times `and true` after a condition: two tokens for each.
 fn ands(alloc: Global, count: usize, mut cond: Cond) -> Result<Cond, Fail> {
     for _ in 0..count {
         cond = and(alloc, cond, Cond::True)?;
@@ -274,7 +274,7 @@ fn ors(alloc: Global, count: usize) -> Result<Cond, Fail> {
     Ok(cond)
 }
 
-/// Whether a sum, so many `and` behind it and so many `not` before it are within the limits.
+/// Whether a sum, so many `and` after it and so many `not` before it are within the limits.
 fn is_within(
     alloc: Global,
     factors: usize,
@@ -318,7 +318,7 @@ fn depth_and_tokens_in_their_limits(rt: HostRuntime) -> Result<(), Fail> {
     Ok(())
 }
 
-/// Whether a condition with so many `and true` behind it is within the limits.
+/// Whether a condition with so many `and true` after it is within the limits.
 fn is_tail_within(alloc: Global, cond: Cond, tail: usize) -> Result<bool, Fail> {
     let cond = ands(alloc, tail, cond)?;
     Ok(cond.is_within_limits())

@@ -36,7 +36,7 @@ module _ (v : ℕ) where
       let one : 1 + prefix_len (λ m. nat_lt m.0 v) pairs ≡ suc (place_of pairs v) = omega (arith, prefix-place pairs) in
       ap (λ k. cond (nat_lt n.0 v) k 0) one
 
-  -- as many stand before v as a scan from the front passes
+  -- as many stand before v as a scan from the start passes
   pub place-passed : (pairs : Pairs) → length (take_while (λ n. nat_lt n.0 v) pairs) ≡ place_of pairs v
   place-passed pairs = length-prefix_len (λ n. nat_lt n.0 v) pairs ∙ prefix-place pairs
 

@@ -28,7 +28,7 @@ impl<T> List<T> {
         }
     }
 
-    /// Puts an item at the end, in constant time on average. Want of memory hands the item back.
+    /// Puts an item at the end, in constant time on average. Where memory runs out the item is handed back.
     pub fn push(&mut self, item: T) -> Result<(), AllocFailed<T>>
         ensures ok { OnOk result (self.new ≡ self.old ++ item ∷ []) }
         ensures err { OnErr result (self.new ≡ self.old) }

@@ -20,7 +20,7 @@ HasNoLf-take held n within nowhere k d below same =
 pub HasNoLf-all : (held : List ℕ) → Nowhere (Passes (is_byte lf) held) 0 (length held) → HasNoLf held
 HasNoLf-all held nowhere = subst HasNoLf (take_all (length held) held (omega arith)) (HasNoLf-take held (length held) (omega arith) nowhere)
 
--- a front of bytes without LF has none either
+-- a prefix of bytes without LF has none either
 pub HasNoLf-front : (text : List ℕ) (n : ℕ) → HasNoLf text → HasNoLf (take n text)
 HasNoLf-front text n no_lf k d below same =
     let counted = length-take n text in
@@ -112,11 +112,11 @@ gives_last (Some was) (Some is) old new (b ∷ bs) n taken short all some end li
       bytes = to_come ∙ sym (append-nil text) ∙ sym (append-nil (text ++ [])) ∙ ap (λ l. line_text l ++ []) (sym last) ∙ ap (λ t. line_text new.line ++ t) (sym rest);
     }
 
--- behind a line that no LF ended nothing is to come
+-- after a line that no LF ended nothing is to come
 pub nothing_behind : (old new : Reading) (was is : List ℕ) → GivesLine old new was is → new.line.whole ≡ false → new.held ++ is ≡ []
 nothing_behind old new was is given unfinished = lines_of-unfinished (old.held ++ was) new.line (new.held ++ is) given.lines unfinished
 
--- at the end nothing was to come and nothing is, where a line without LF had nothing behind it
+-- at the end nothing was to come and nothing is, where a line without LF had nothing after it
 pub nothing_left : (old new : Reading) (was is : List ℕ) → GivesEnd old new was is → (old.line.whole ≡ false → old.held ++ was ≡ []) → (old.held ++ was ≡ []) × (new.held ++ is ≡ [])
 nothing_left old new was is ends behind =
     elim (cases_Bool old.line.whole) [

@@ -17,12 +17,12 @@ slice_range-skip block start end n within =
 pub length-slice_range : (block : List ℕ) (start end : ℕ) → end ≤ length block → length (slice_range block start end) ≡ end - start
 length-slice_range block start end within = simp (length-take, length-drop) (omega arith)
 
--- the part stands at the front of the block that it was moved to the front of
+-- the part stands at the start of the block that it was moved to the front of
 pub take-copy_within : (block : List ℕ) (start end : ℕ) → end ≤ length block → take (end - start) (copy_within block start end 0) ≡ slice_range block start end
 take-copy_within block start end within =
     take_at (slice_range block start end) (drop (0 + (end - start)) block) (end - start) (length-slice_range block start end within)
 
--- what came behind a front of the block that was kept
+-- what came after a prefix of the block that was kept
 pub slice_range-filled : (front block came rest : List ℕ) (kept room size count : ℕ) → take kept block ≡ front → length front ≡ kept → count ≤ length came → kept + count ≤ size
     → slice_range (take size (put_mid kept room block came ++ rest)) 0 (kept + count) ≡ front ++ take count came
 slice_range-filled front block came rest kept room size count is_front is_kept within fits =

@@ -1,6 +1,6 @@
 -- How calls that write add up.
 --
--- What two calls of `put` say together is `Gathers-then` of their clauses, and with a `send` behind them it is
+-- What two calls of `put` say together is `Gathers-then` of their clauses, and with a `send` after them it is
 -- `Gathers-Puts`. At the exit of a `?` it is `Gathers-err _ c.from_residual.ensures.0` of what the failed call
 -- says, with a `Gathers-more _` around that for each text that was to follow.
 use Rattle.std.proofs.Common.{◌≡◌, ℕ, ◌+◌, ◌≤◌, List, [], ◌++◌, length, min, take, drop, Option, Some, None, Result, Ok, Err, IsErr, sym, ap, subst, ◌∙◌, append_assoc, arith}
@@ -42,7 +42,7 @@ pub PassesOn-start : (known : Option (List ℕ)) (held : List ℕ) → PassesOn 
 PassesOn-start None held = record { sent = []; written = tt; rest = sym (append-nil held) }
 PassesOn-start (Some xs) held = record { sent = []; written = sym (append-nil xs); rest = sym (append-nil held) }
 
--- a front of what is held was written, and the rest is held
+-- a prefix of what is held was written, and the rest is held
 pub PassesOn-front : (old new : Option (List ℕ)) (held : List ℕ) (n : ℕ) → Appends old new (take n held) → PassesOn old held new (drop n held) []
 PassesOn-front old new held n a = record {
   sent = take n held;
@@ -62,11 +62,11 @@ PassesOn-then {old} {mid} {new} {held} {holds} {keeps} {first} {second} p q = re
       ∙ append_assoc held first second;
 }
 
--- known bytes that stay grow by a front, which is empty
+-- known bytes that stay grow by a prefix, which is empty
 pub AppendsFront-kept : (old new : Option (List ℕ)) (text : List ℕ) → Keeps old new → AppendsPrefix old new text
 AppendsFront-kept old new text k = record { len = 0; written = Appends-kept old new k }
 
--- a front of a text is a front of a longer one
+-- a prefix of a text is a prefix of a longer one
 pub AppendsFront-more : {old new : Option (List ℕ)} {text : List ℕ} (more : List ℕ) → AppendsPrefix old new text → AppendsPrefix old new (text ++ more)
 AppendsFront-more {old} {new} {text} more front =
     let short : min front.len (length text) ≤ length text = omega arith in
@@ -74,7 +74,7 @@ AppendsFront-more {old} {new} {text} more front =
     sym (take_min front.len text) ∙ sym (take-append-le (min front.len (length text)) text more short) in
     record { len = min front.len (length text); written = subst (Appends old new) same front.written }
 
--- a text, and then a front of another one
+-- a text, and then a prefix of another one
 pub AppendsFront-after : (old : Option (List ℕ)) {mid new : Option (List ℕ)} (first : List ℕ) {second : List ℕ} → Appends old mid first → AppendsPrefix mid new second → AppendsPrefix old new (first ++ second)
 AppendsFront-after old {mid} {new} first {second} a front = record {
   len = length first + front.len;
@@ -82,14 +82,14 @@ AppendsFront-after old {mid} {new} first {second} a front = record {
       (Appends-then old mid new first (take front.len second) a front.written);
 }
 
--- a text was passed on, and then a front of what is held and of another text was written
+-- a text was passed on, and then a prefix of what is held and of another text was written
 pub AppendsFront-then : {old mid new : Option (List ℕ)} {held holds first : List ℕ} (second : List ℕ) → PassesOn old held mid holds first → AppendsPrefix mid new (holds ++ second) → AppendsPrefix old new (held ++ (first ++ second))
 AppendsFront-then {old} {mid} {new} {held} {holds} {first} second p front =
     let whole : p.sent ++ (holds ++ second) ≡ held ++ (first ++ second) =
     sym (append_assoc p.sent holds second) ∙ ap (λ zs. zs ++ second) p.rest ∙ append_assoc held first second in
     subst (AppendsPrefix old new) whole (AppendsFront-after old p.sent p.written front)
 
--- a part of what was held is out, and no more follows than a front of the rest
+-- a part of what was held is out, and no more follows than a prefix of the rest
 pub PassesOn-stops : {old mid new : Option (List ℕ)} {held holds : List ℕ} → PassesOn old held mid holds [] → AppendsPrefix mid new holds → AppendsPrefix old new held
 PassesOn-stops {old} {mid} {new} {held} {holds} p front =
     subst (AppendsPrefix old new) (append-nil held) (AppendsFront-then [] p (AppendsFront-more [] front))
@@ -99,7 +99,7 @@ pub Puts-after : {T E : Type 0} (old : Option (List ℕ)) {mid new : Option (Lis
 Puts-after old {mid = mid} {new = new} first {second = second} {result = Ok v} a p = record { all = Appends-then old mid new first second a p.all; front = tt }
 Puts-after old first {result = Err e} a p = record { all = tt; front = AppendsFront-after old first a p.front }
 
--- an error after a front of a text
+-- an error after a prefix of a text
 pub Puts-front : {T E : Type 0} {old new : Option (List ℕ)} {text : List ℕ} (result : Result T E) → IsErr result → AppendsPrefix old new text → Puts old new text result
 Puts-front (Ok v) is front = absurd (false≢true is)
 Puts-front (Err e) is front = record { all = tt; front = front }
@@ -141,7 +141,7 @@ Gathers-more {old = old} {new = new} {held = held} {text = text} more p = record
   front = subst (AppendsPrefix old new) (append_assoc held text more) (AppendsFront-more more p.front);
 }
 
--- a failed call wrote a front of all that it had
+-- a failed call wrote a prefix of all that it had
 pub Gathers-failed : {T E : Type 0} {old new : Option (List ℕ)} {held holds text : List ℕ} {e : E} → Gathers {T = T} old held new holds text (Err e) → Puts {T = T} old new (held ++ text) (Err e)
 Gathers-failed p = record { all = tt; front = p.front }
 

@@ -10,7 +10,7 @@ use Rattle.job_io.specs.meaning.Lines.{lf, cr, is_lf, Line, lines_of, lines_of_p
 NoneIsLf-from : (text : List ℕ) → HasNoLf text → All (λ b. is_lf b ≡ false) text
 NoneIsLf-from text no_lf k d within = ne_eqb (get_or text k d) lf (no_lf k d within)
 
--- the parts behind a first one are lines of their own
+-- the parts after a first one are lines of their own
 lines_of_parts-more : (part : List ℕ) (parts : List (List ℕ)) → 0 < length parts → lines_of_parts (part ∷ parts) ≡ record { bytes = part; whole = true } ∷ lines_of_parts parts
 lines_of_parts-more part [] some = absurd (omega arith)
 lines_of_parts-more [] (next ∷ parts) some = refl
@@ -105,7 +105,7 @@ pub record IsWhole (line : Line) : Type 0 where
   pub whole : line.whole ≡ true
   pub no_lf : HasNoLf line.bytes
 
--- of whole lines, and behind them a rest without LF, the whole lines are those
+-- of whole lines, and after them a rest without LF, the whole lines are those
 pub whole_lines_of-given : (lines : List Line) (rest : List ℕ) → All IsWhole lines → HasNoLf rest → whole_lines_of (flat_map line_text lines ++ rest) ≡ lines
 whole_lines_of-given [] rest each no_lf = whole_lines_of-none rest no_lf
 whole_lines_of-given (line ∷ lines) rest each no_lf =

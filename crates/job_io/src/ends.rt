@@ -25,7 +25,7 @@ pub trait Source {
     /// How often the source has failed.
     ghost faults: { Self → ℕ };
 
-    /// Takes the next bytes into the front of `buf` and tells how many. 0 into a buffer with room is the
+    /// Takes the next bytes into the start of `buf` and tells how many. 0 into a buffer with room is the
     /// end of input.
     fn read(&mut self, buf: &mut [u8]) -> Result<usize, Failed>
         ensures bound { ReadsAtMost result buf.new }

@@ -64,7 +64,7 @@ impl LineBuffer {
         &self.bytes[self.start..self.end]
     }
 
-    // Gives the first `count` bytes as the line, and drops `ending` bytes behind it.
+    // Gives the first `count` bytes as the line, and drops `ending` bytes after it.
     pub fn give(&mut self, count: usize, ending: usize)
         requires { count + ending ≤ length self.old.held }
         ensures line { self.new.line ≡ take count self.old.held }
@@ -75,7 +75,7 @@ impl LineBuffer {
         self.start += count + ending;
     }
 
-    // Takes a block behind what is held, and tells how many bytes came: none at the end of the source.
+    // Takes a block after what is held, and tells how many bytes came: none at the end of the source.
     pub fn refill<S: Source>(&mut self, src: &mut S) -> Result<usize, Failed>
         requires { length self.old.held ≤ most_line_bytes }
         ensures line_gone { self.new.line ≡ [] }

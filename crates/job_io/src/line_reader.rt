@@ -22,7 +22,7 @@ pub enum LineFault {
     ReadFault,
     /// The line of this number, counted from 1, has more than 4,096 bytes.
     TooLong(u64),
-    /// The source goes on behind the last line allowed; the number is that of the next one.
+    /// The source goes on after the last line allowed; the number is that of the next one.
     TooMany(u64),
 }
 
@@ -86,7 +86,7 @@ impl LineReader {
     }
 
     /// Moves to the next line: `true` where there is one, `false` at the end of the text. A reader that
-    /// gave no line may not be asked again. Behind a last line without LF the end is known, and the source
+    /// gave no line may not be asked again. After a last line without LF the end is known, and the source
     /// is not asked.
     ///
     /// After the last line allowed, any further byte is `TooMany`, however the text goes on.
@@ -160,7 +160,7 @@ impl LineReader {
         self.live
     }
 
-    // Gives the first `count` bytes held as the next line, with an LF behind them where it is whole.
+    // Gives the first `count` bytes held as the next line, with an LF after them where it is whole.
     fn give(&mut self, count: usize, whole: bool)
         requires held { count + (if whole then 1 else 0) ≤ length self.old.held }
         requires more { self.old.number < self.old.most }

@@ -80,7 +80,7 @@ impl Source for MemorySource {
     }
 }
 
-/// Copies the first bytes of `from` into the front of `into`, at most `step`, and tells how many.
+/// Copies the first bytes of `from` into the start of `into`, at most `step`, and tells how many.
 fn copy_front(from: &[u8], step: usize, into: &mut [u8]) -> usize
     ensures count { result ≡ min (min step (length into.old)) (length from.now) }
     ensures front { take result into.new ≡ take result from.now }

@@ -37,7 +37,7 @@ impl Page {
         }
     }
 
-    /// Adds `bytes` behind those held. Where they do not fit, hands what is held to `out` first, and so
+    /// Adds `bytes` after those held. Where they do not fit, hands what is held to `out` first, and so
     /// too the bytes where they are longer than a page.
     pub fn put<O: Sink>(&mut self, out: &mut O, bytes: &[u8]) -> Result<(), WriteFault>
         ensures gathered { Gathers (O.written out.old) self.old (O.written out.new) self.new bytes.now result }

@@ -5,12 +5,12 @@ use Rattle.std.proofs.lemmas.List.{at_drop_more}
 use Rattle.std.proofs.lemmas.Bool.{le-ltb, lt-ltb, le-leb, ltb-true, ltb-false, and_right}
 use Rattle.line_fields.specs.meaning.Fields.{is_digit, value_after, number_of, with_digit}
 
--- the number that digits behind a number n give, read one by one
+-- the number that digits after a number n give, read one by one
 abbrev pub number_after : ℕ → List ℕ → Option ℕ
 number_after n [] = Some n
 number_after n (d ∷ ds) = option_and_then (λ m. number_after m ds) (with_digit n d)
 
--- what is read of a word from place i on, where the byte there can be read behind n
+-- what is read of a word from place i on, where the byte there can be read after n
 pub number_after-reads : (n m i : ℕ) (word : List ℕ) → i < length word → with_digit n (get_or word i 0) ≡ Some m → number_after n (drop i word) ≡ number_after m (drop (i + 1) word)
 number_after-reads n m i word within reads =
     at_drop_more (number_after n) word i 0 within ∙ ap (option_and_then (λ k. number_after k (drop (i + 1) word))) reads

@@ -23,7 +23,7 @@ words_of-trim_start (b ∷ line) =
     ] in
     by_test (is_blank b) refl
 
--- the bytes up to the first blank are the first part, and behind it stand the words of the other parts
+-- the bytes up to the first blank are the first part, and after it stand the words of the other parts
 record FirstPart (line : List ℕ) : Type 0 where
   part : List ℕ
   parts : List (List ℕ)
@@ -82,7 +82,7 @@ is_nothing-first line some =
     ] in
     ap is_nothing_words (sym (words_of-trim_start line)) ∙ by_rest (trim_start line) refl some
 
--- how many words stand behind the first one
+-- how many words stand after the first one
 pub length-words_behind : (line : List ℕ) → length (words_of (after_word (trim_start line))) ≡ length (words_of line) - 1
 length-words_behind line =
     let by_rest : (t : List ℕ) → trim_start line ≡ t → length (words_of (after_word t)) ≡ length (words_of t) - 1 =

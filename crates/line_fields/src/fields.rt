@@ -34,7 +34,7 @@ pub fn word(line: &[u8], i: usize) -> Option<&[u8]>
         .nth(i)
 }
 
-/// What stands behind the first `i` words, with the blanks before it; nothing where no word follows.
+/// What stands after the first `i` words, with the blanks before it; nothing where no word follows.
 pub fn rest(line: &[u8], i: usize) -> &[u8]
     ensures { result.now ≡ rest_of line.now i }
 {
@@ -114,7 +114,7 @@ fn after_word(line: &[u8]) -> &[u8]
     rest
 }
 
-// The number with one more decimal digit behind it, where it fits 64 bits.
+// The number with one more decimal digit after it, where it fits 64 bits.
 fn with_digit(number: u64, digit: u8) -> Option<u64>
     ensures { result ≡ number_with_digit number digit }
 {
@@ -143,7 +143,7 @@ fn all_label_bytes(bytes: &[u8]) -> bool
     bytes.iter().all(|b| is_label_byte(*b))
 }
 
-/// Whether a label may have this byte behind its first one: a letter, a digit, `_` or `-`.
+/// Whether a label may have this byte after its first one: a letter, a digit, `_` or `-`.
 pub fn is_label_byte(b: u8) -> bool
     ensures { result ≡ continues_label b }
 {

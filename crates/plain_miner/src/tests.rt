@@ -84,7 +84,7 @@ fn found(
     Ok(embeddings(alloc, &program, graph)?)
 }
 
-/// The numbers of the members of each piece, and a 0 behind each piece. An edge has those of both its ends.
+/// The numbers of the members of each piece, and a 0 after each piece. An edge has those of both its ends.
 fn listed(alloc: Global, pieces: &PieceList) -> Result<Vec<u32>, AllocError> {
     let mut numbers = Vec::new(alloc);
     for piece in pieces.as_slice() {

@@ -23,7 +23,7 @@ use Rattle.program_grammar.specs.meaning.Text.{knows_labels, knows_term}
 use Rattle.program_grammar.proofs.Limits.{ok_same, bind_ok, either_ok, chosen_ok}
 use Rattle.program_grammar.proofs.WrittenTokens.{all_known, knows-form}
 
--- the names before, with others behind them
+-- the names before, with others after them
 abbrev pub LeadsTo : Names → Names → Type 0
 LeadsTo names after = (more : Names) × (after ≡ names ++ more)
 
@@ -73,7 +73,7 @@ module _ (names after : Names) (leads : LeadsTo names after) where
 
 -- ---- productions
 
--- what was read is known by the names then, which are those before with others behind them
+-- what was read is known by the names then, which are those before with others after them
 record Known {A : Type 0} (known_by : Names → A → Bool) (names : Names) (x : A × List Token × Names) : Type 0 where
   leads : LeadsTo names x.2
   known : known_by x.2 x.0 ≡ true

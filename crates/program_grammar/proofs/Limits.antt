@@ -352,7 +352,7 @@ comparison-fits room ts names x h =
     (numbers-form c ∙ and_from _ _ (and_from _ _ (and_from _ _ (le-leb 1 (length s.0) fits.some) (le-leb (length s.0) most_factors fits.few)) fits.times) low.0)
     (omega (arith, fits.tokens, operator-length s.1 o compared, low.1)) (omega arith))
 
--- what stands behind one more `(` or `not`, where `room` more may be open
+-- what stands after one more `(` or `not`, where `room` more may be open
 record FitsInside (room : ℕ) (at_most : Nested) : Type 0 where
   cond : (ts : List Token) (names : Names) (x : Cond × List Token × Names) → at_most.cond ts names ≡ Ok x → (left : ℕ) × (room ≡ left + 1) × Fits 0 left ts x
   neg : (ts : List Token) (names : Names) (x : Cond × List Token × Names) → at_most.neg ts names ≡ Ok x → (left : ℕ) × (room ≡ left + 1) × Fits 2 left ts x

@@ -31,7 +31,7 @@ module _ {X : Type 0} (p : X → Bool) where
       ∙ ap (λ l. cond (ltb (1 + position_or_len p xs) l) (Some (1 + position_or_len p xs)) None) (let s : length (x ∷ xs) ≡ 1 + length xs = omega arith in s)
       ∙ one_on-place (position_or_len p xs) (length xs)
 
--- a place in the first list, or one behind it
+-- a place in the first list, or one after it
 abbrev pub or_behind : ℕ → Option ℕ → Option ℕ → Option ℕ
 or_behind n (Some i) o = Some i
 or_behind n None o = option_map (λ i. n + i) o
@@ -66,7 +66,7 @@ module _ {X Y : Type 0} (f : X → Y) (p : Y → Bool) where
     | false ↦ λ e. position-later p (f x) (map f xs) e ∙ ap one_on (position-map xs) ∙ sym (position-later (λ x. p (f x)) x xs e)
   ] refl
 
--- labels that are put behind names
+-- labels that are put after names
 
 pub number_in-append : (names labels : Names) (label : List ℕ) → number_in (names ++ labels) label ≡ or_behind (length names) (number_in names label) (number_in labels label)
 number_in-append names labels label = position-append (bytes_eq label) names labels
@@ -83,7 +83,7 @@ AreNew-push names [] label are form new = (form, subst (λ ns. number_in ns labe
 AreNew-push names (l ∷ labels) label are form new =
     (are.0, are.1, AreNew-push (names ++ l ∷ []) labels label are.2 form (ap (λ ns. number_in ns label) (append_assoc names (l ∷ []) labels) ∙ new))
 
--- the number of a label behind names and the labels that they lack, as it is looked up
+-- the number of a label after names and the labels that they lack, as it is looked up
 module _ (names labels : Names) (label : List ℕ) where
   pub numbered-named : (n : ℕ) → Some n ≡ number_in names label → (n, names ++ labels) ≡ label_number (names ++ labels) label
   numbered-named n known =

@@ -114,7 +114,7 @@ module _ (names : Names) (are : AreNames names) where
     no_open : tokens_after opening ts ≡ None
     no_plus : tokens_after plus ts ≡ None
 
-  -- no `(` stands behind a factor
+  -- no `(` stands after a factor
   more-no_open : (sum : List Factor) (ts : List Token) → tokens_after opening ts ≡ None → tokens_after opening (front_more names sum ts) ≡ None
   more-no_open [] ts lost = lost
   more-no_open (f ∷ sum) ts lost = refl
@@ -241,7 +241,7 @@ module _ (names : Names) (are : AreNames names) where
   abbrev or_join : Cond → Cond → Cond
   or_join c d = of_form (form.Or c d)
 
-  -- where a chain goes on behind what was read as its operands so far
+  -- where a chain goes on after what was read as its operands so far
   abbrev AsConj : Cond → ℕ → List Token → List Token → Type 0
   AsConj c room us ts = (turns : ℕ) × (length ts ≤ turns) × (conj (nested_within room) us names ≡ and_chain (nested_within room) turns c ts names)
 

@@ -41,7 +41,7 @@ some_words text ts lexed some = by_front (trim_start text) refl
         let first = words_of-first b bs (trim_start-first text b bs e) in
         omega (arith, ap length (sym (words_of-trim_start text) ∙ ap words_of e ∙ first.1))
 
--- a condition behind its word
+-- a condition after its word
 module _ (text : List ℕ) (names : Names) (some : 1 ≤ length (words_of text)) where
   two_words : nat_lt 1 (suc (length (words_of text))) ≡ true
   two_words = lt-ltb 1 (suc (length (words_of text))) (omega (arith, some))

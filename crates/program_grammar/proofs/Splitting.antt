@@ -1,4 +1,4 @@
--- The tokens of a text by its first token and what stands behind that.
+-- The tokens of a text by its first token and what stands after that.
 use Rattle.std.proofs.Common.{◌≡◌, ◌≢◌, ℕ, zero, suc, ◌+◌, ◌-◌, ◌≤◌, true, false, cond, List, [], ◌∷◌, length, drop, Option, None, Some, IsSome, option_map, option_and_then, unwrap_or, refl, sym, ap, subst, ◌∙◌, arith}
 use Rattle.std.proofs.lemmas.Bool.{false≢true}
 use Rattle.line_fields.specs.meaning.Fields.{is_blank, trim_start}
@@ -11,7 +11,7 @@ tokens_from-drop zero (b ∷ bs) = refl
 tokens_from-drop (suc k) [] = refl
 tokens_from-drop (suc k) (b ∷ bs) = tokens_from-drop k bs
 
--- a token, where there is one, before the tokens behind it
+-- a token, where there is one, before the tokens after it
 abbrev with_front : Option (Token × ℕ) → List ℕ → Option (List Token)
 with_front o bs = option_and_then (λ t. option_map (λ ts. t.0 ∷ ts) (tokens_from (t.1 - 1) bs)) o
 
@@ -96,7 +96,7 @@ tokens_from-trim_start (b ∷ bs) = elim (is_blank b) as (λ k. is_blank b ≡ k
   | false ↦ λ e. ap (tokens_from 0) (trim-front b bs e)
 ] refl
 
--- the first token and what stands behind it
+-- the first token and what stands after it
 
 some_front : (t : Token) (o : Option (List Token)) → IsSome (option_map (λ ts. t ∷ ts) o) → (unwrap_or (option_map (λ ts. t ∷ ts) o) [] ≡ t ∷ unwrap_or o []) × IsSome o
 some_front t None is = absurd (false≢true is)

@@ -22,7 +22,7 @@ use Rattle.program_grammar.specs.meaning.Text.{Text, text_in_place, text_by, bou
 use Rattle.program_grammar.proofs.Splitting.{tokens_of-front}
 use Rattle.program_grammar.proofs.Digits.{digits-decimal, has_bytes-decimal}
 
--- The tokens of each part as it is written, with others behind them.
+-- The tokens of each part as it is written, with others after them.
 
 abbrev pub front_term : Names → Term → List Token → List Token
 front_term names (Vertices None) ts = word (codes "vertices") ∷ ts
@@ -73,14 +73,14 @@ front_by names (Or c d) = record { binding = 0; front = λ ts. front_at 0 c (wor
 abbrev pub front_cond : Names → Cond → Front
 front_cond names c = fold-Cond Front (front_by names) c
 
--- ---- the tokens of a text with others behind it
+-- ---- the tokens of a text with others after it
 
 -- no byte that goes on with a word or a number comes first
 abbrev pub stops : List ℕ → Bool
 stops [] = true
 stops (b ∷ bs) = not (is_label_byte b)
 
--- the text has these tokens, whatever stands behind it; or where that goes on with no word and no number
+-- the text has these tokens, whatever stands after it; or where that goes on with no word and no number
 abbrev pub LexesAlways : List ℕ → (List Token → List Token) → Type 0
 LexesAlways text f = (rest : List ℕ) (ts : List Token) → tokens_of rest ≡ Some ts → tokens_of (text ++ rest) ≡ Some (f ts)
 
@@ -241,7 +241,7 @@ lexes_op Unequal rest ts e = ap (option_map (λ us. op Unequal ∷ us)) e
 
 -- ---- terms and sums
 
--- a parenthesis behind a text
+-- a parenthesis after a text
 closed_lexes : (a : List ℕ) (f : List Token → List Token) → Lexes a f → Lexes (a ++ codes ")") (λ ts. f (closing ∷ ts))
 closed_lexes a f first = stopping_then a (codes ")") f (λ ts. closing ∷ ts) first (λ rest. refl) (λ rest ts stop e. lexes_close rest ts e)
 
@@ -310,7 +310,7 @@ module _ (names : Names) (labels : list_all is_label_word names ≡ true) where
       lt_of : {n : ℕ} → n ≤ 100 → n < 10 ^ 10
       lt_of le = omega (arith, le)
 
-  -- the factors behind others
+  -- the factors after others
   later_lexes : (a : List ℕ) (f : List Token → List Token) (sum : List Factor) → Lexes a f → Lexes (more_text names sum) (front_more names sum)
       → Lexes (a ++ more_text names sum) (λ ts. f (front_more names sum ts))
   later_lexes a f [] first later = λ rest ts stop e. ap tokens_of (append_assoc a [] rest) ∙ first rest ts stop e

@@ -146,7 +146,7 @@ impl ConditionReader<'_, '_> {
     }
 }
 
-// How many more may be open behind one more `not` or parenthesis.
+// How many more may be open after one more `not` or parenthesis.
 fn opened(room: u32) -> Result<u32, Refusal>
     ensures { MatchResult result (λ left. room ≡ left + 1) (λ f. (room ≡ 0) × (f ≡ Refusal.TooDeep)) }
 {

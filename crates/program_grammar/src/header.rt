@@ -90,8 +90,8 @@ impl HeaderReader {
     }
 
     /// Takes line `number`, whose LF and CR were dropped. Labels of its condition that the names lack, at
-    /// most 512, are put behind them in the order in which they stand. A refusal leaves the names as they
-    /// were; where memory is wanted, the first of the labels may have been put there. Takes time linear in
+    /// most 512, are put after them in the order in which they stand. A refusal leaves the names as they
+    /// were; where memory runs out, the first of the labels may have been put there. Takes time linear in
     /// the line, but for comparisons among its new labels; allocates the condition and those labels.
     ///
     /// The first that holds is told: the form of the line is wrong, or a byte begins no token (`BadLine`);
@@ -236,7 +236,7 @@ fn read_matching(alloc: Global, line: &[u8], names: &mut Names) -> Result<Matchi
     Ok(Matching::new(cond))
 }
 
-// The condition behind the first word, which has to be this one, and the labels in it that the names lack.
+// The condition after the first word, which has to be this one, and the labels in it that the names lack.
 #[tactic(auto, unfolding(crate::specs::Header::condition_behind))]
 fn parse_behind<'t>(
     alloc: Global,

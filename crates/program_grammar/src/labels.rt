@@ -10,7 +10,7 @@ use graph_types::{LabelId, NoMemory};
 use std::alloc::Global;
 use line_fields::{NameFault, Names};
 
-/// The number of a label behind the names and the labels that they lack. A label that is new is put there.
+/// The number of a label after the names and the labels that they lack. A label that is new is put there.
 pub(crate) fn number_of<'t>(
     names: &Names,
     labels: &mut Vec<&'t [u8]>,
@@ -43,7 +43,7 @@ fn place_of(labels: &[&[u8]], label: &[u8]) -> Option<usize>
     labels.iter().position(|l| label == *l)
 }
 
-/// Puts labels that are all new behind the names. Where memory is wanted, those before stay there.
+/// Puts labels that are all new after the names. Where memory runs out, those before stay there.
 pub(crate) fn intern_all(alloc: Global, names: &mut Names, labels: &[&[u8]]) -> Result<(), NoMemory>
     requires new { AreNew names.old (map (λ l. l.now) labels.now) }
     requires room { length names.old + length labels.now ≤ most_names }

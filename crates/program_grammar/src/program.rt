@@ -9,7 +9,7 @@ use job_io::LineList;
 use std::alloc::Global;
 use line_fields::Names;
 
-/// Reads the program that lines say, up to its `begin`. Labels that the names lack are put behind them in the
+/// Reads the program that lines say, up to its `begin`. Labels that the names lack are put after them in the
 /// order in which they stand, at most 1,024. A refusal leaves there those of the lines before. The first line
 /// that [`HeaderReader::take`] refuses is told, by its number from 1; `Missing` tells that the lines end before
 /// `begin`. Takes the time and the memory of those calls.

@@ -55,7 +55,7 @@ impl ConditionReader<'_, '_> {
         Ok((one, other))
     }
 
-    // Takes what stands behind the name of a term.
+    // Takes what stands after the name of a term.
     #[tactic(auto, unfolding(crate::specs::Grammar::term_behind))]
     fn term_behind(&mut self, name: TermName) -> Result<Term, ReadError>
         ensures reads { ReadsProduction result self.new (term_after_name name self.old.tokens self.old.names) }

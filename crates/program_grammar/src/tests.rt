@@ -281,7 +281,7 @@ fn is_named(names: &Names, label: u32, text: &[u8]) -> bool {
     }
 }
 
-/// How many lines lead on, and what the one behind them leads to.
+/// How many lines lead on, and what the one after them leads to.
 fn heading(alloc: Global, lines: &[&[u8]]) -> Result<(u64, Option<ProgramFault>), Fail> {
     let mut names = Names::new(alloc)?;
     let mut header = HeaderReader::new();

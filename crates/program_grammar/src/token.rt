@@ -70,7 +70,7 @@ impl<'a> Token<'a> {
     }
 }
 
-/// The token at the front of a text, and how many bytes it has.
+/// The token at the start of a text, and how many bytes it has.
 pub(crate) fn token_at(text: &[u8]) -> Option<(Token<'_>, usize)>
     ensures token { option_map (λ t. (token_of t.0, t.1)) result ≡ token_at text.now }
     ensures within { MatchOption result (Unit {0}) (λ t. (1 ≤ t.1) × (t.1 ≤ length text.now)) }

@@ -112,7 +112,7 @@ pub(crate) fn count_tokens(text: &[u8]) -> Option<usize>
     Some(count)
 }
 
-// The next token of a text and what stands behind it.
+// The next token of a text and what stands after it.
 fn split_token(text: &[u8]) -> Option<(Token<'_>, &[u8])>
     requires { IsSome (tokens_of text.now) }
     ensures { SplitsToken text.now result }

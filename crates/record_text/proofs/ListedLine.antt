@@ -12,7 +12,7 @@ pub record IsListed (members : List Member) (line : List ℕ) (n : ℕ) : Type 0
   pub text : line ≡ members_text members
   pub short : length line ≤ 42 * n
 
--- a member behind others is parted from them by a space
+-- a member after others is parted from them by a space
 members_text-more : (members : List Member) (n : ℕ) (m : Member) → slice_get members (suc n) ≡ Some m →
     members_text (take (suc n + 1) members) ≡ members_text (take (suc n) members) ++ after_space (member_text m)
 members_text-more [] n m at = cc

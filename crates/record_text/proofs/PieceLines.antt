@@ -29,7 +29,7 @@ module _ (line_with : List Member → List ℕ) where
       lines_each (take (i + 1) pieces) ∙ flat_map-take_more line_of pieces i p (slice_get_read pieces (length pieces) i p refl within is)
       ∙ ap (λ text. text ++ line_of p) (sym (lines_each (take i pieces)))
 
-  -- the first lines, and those behind them
+  -- the first lines, and those after them
   lines-split : (pieces : List PieceValue) (n : ℕ) → text_of pieces ≡ text_of (take n pieces) ++ text_of (drop n pieces)
   lines-split pieces n =
       lines_each pieces ∙ sym (ap (flat_map line_of) (take-append-drop n pieces)) ∙ flat_map-append line_of (take n pieces) (drop n pieces)

@@ -12,7 +12,7 @@ pub after_all-push : (g : Graph) (us : List Update) (u : Update) → graph_after
 after_all-push g [] u = refl
 after_all-push g (v ∷ us) u = after_all-push (graph_after g v) us u
 
--- the snapshot behind the first updates is theirs, whatever follows
+-- the snapshot after the first updates is theirs, whatever follows
 pub snapshot-front : (all us vs : List Update) (t : ℕ) → us ++ vs ≡ all → length us ≡ t → snapshot all t ≡ graph_after_all empty_graph us
 snapshot-front all us vs t split long = ap (graph_after_all empty_graph) (ap (λ xs. take t xs) (sym split) ∙ (ap (λ n. take n (us ++ vs)) (sym long) ∙ take-append_seam us vs))
 

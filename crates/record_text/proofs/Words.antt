@@ -1,4 +1,4 @@
--- The words of a line behind its first one, and the parts of a word round dashes.
+-- The words of a line after its first one, and the parts of a word round dashes.
 use Rattle.std.proofs.Common.{◌≡◌, ℕ, suc, ◌+◌, ◌-◌, ◌^◌, ◌<◌, Bool, true, false, ◌&&◌, cond, ltb, leb, List, [], ◌∷◌, length, take, drop, Option, None, Some, slice_get, refl, sym, ap, subst, ◌∙◌, arith, if◌then◌else◌}
 use Rattle.std.specs.List.{slice_split, onto_first, list_all, position, position_or_len, join_with_byte}
 use Rattle.std.specs.Option.{option_and_then}
@@ -19,7 +19,7 @@ behind_one (w ∷ words) line is =
     let two : ltb 1 (suc (length (w ∷ words))) ≡ true = grind (arith, nat_tests) in
     ap (λ b. words_of (cond b line [])) two ∙ is
 
--- a line with a first word has its other words behind that
+-- a line with a first word has its other words after that
 pub words_of-rest_of : (line word : List ℕ) → slice_get (words_of line) 0 ≡ Some word → words_of line ≡ word ∷ words_of (rest_of line 1)
 words_of-rest_of line word at =
     let by_rest : (t : List ℕ) → trim_start line ≡ t → slice_get (words_of t) 0 ≡ Some word → words_of line ≡ word ∷ words_of (rest_of line 1) = elim [

@@ -56,7 +56,7 @@ words_of-spaced word rest is =
     ap (filter has_bytes) (slice_split_at is_blank word 32 rest (no_blank word is) refl)
     ∙ ap (λ b. if b then word ∷ words_of rest else words_of rest) is.some
 
--- a first word, and each other one behind a space
+-- a first word, and each other one after a space
 abbrev pub spread : List ℕ → List (List ℕ) → List ℕ
 spread word words = word ++ flat_map after_space words
 

@@ -124,7 +124,7 @@ fn read_edge(low: &[u8], high: &[u8]) -> Option<Member>
     }
 }
 
-/// What stands before the first dash of a word, and behind it.
+/// What stands before the first dash of a word, and after it.
 fn split_at_dash(word: &[u8]) -> Option<(&[u8], &[u8])>
     ensures { MatchOption result
         (slice_split is_dash word.now ≡ word.now ∷ [])
@@ -140,7 +140,7 @@ fn dash_place(word: &[u8]) -> Option<usize>
     word.iter().position(|b| *b == b'-')
 }
 
-/// The first word of a line, and what stands behind it.
+/// The first word of a line, and what stands after it.
 fn split_word(line: &[u8]) -> Option<(&[u8], &[u8])>
     ensures { MatchOption result
         (words_of line.now ≡ [])

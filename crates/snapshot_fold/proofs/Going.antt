@@ -25,7 +25,7 @@ abbrev pub IsNotPast : Option ℕ → ℕ → Type 0
 IsNotPast None done = Unit {0}
 IsNotPast (Some t) done = done ≤ t
 
--- These whole lines lead to a fold: whatever lines follow, all come to what those behind the fold do.
+-- These whole lines lead to a fold: whatever lines follow, all come to what those after the fold do.
 pub record Reached (most : ℕ) (at : Option ℕ) (gone : List Line) (n : ℕ) (s : FoldState) : Type 0 where
   pub folds : (lines : List Line) → fold_outcome most at (gone ++ lines) ≡ fold_outcome_from most at n s lines
   pub folds_all : (lines : List Line) → fold_outcome most None (gone ++ lines) ≡ fold_outcome_from most None n s lines

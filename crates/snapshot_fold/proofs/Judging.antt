@@ -131,7 +131,7 @@ module _ (most n : ℕ) (s : FoldState) (line : Line) where
       ap (λ b. cond b (Err (stop.TooMany n)) (cond (nat_lt most_line_bytes (length line.bytes)) (Err (stop.TooLong n)) (Within line.whole))) is
 
 module _ (s behind : FoldState) (line : Line) (says : SaysRecord s behind line) where
-  -- the text goes on behind the line
+  -- the text goes on after the line
   pub behind_line-is : state_after_line s line ≡ Some behind
   behind_line-is =
       ap (λ o. option_and_then (λ said. accepted_state (state_after_record s said)) o) says.said_is ∙ ap accepted_state says.taken_is

@@ -79,7 +79,7 @@ module _ (old new : Reading) (s behind : FoldState) (was is : Option (List ℕ))
       comes_to_stop old s (old.held ++ was) first.0 first.1 (stop.TooMany n) first.2
       (one_line-many old.most (suc old.number) s first.0 (omega (arith, all)) ∙ ap (λ n. Err (stop.TooMany n)) same))
 
-  -- the text ends behind a whole line
+  -- the text ends after a whole line
   takes_end : IsTrue old.line.whole → BothKnown was is (GivesEnd old new) → TakesLine old new s s was is (Ok false)
   takes_end whole known = (
     refl,

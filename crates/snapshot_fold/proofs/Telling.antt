@@ -46,7 +46,7 @@ use Rattle.snapshot_fold.proofs.Undone.{Ascends}
 
 -- ---- one line
 
--- the fold behind a line that was written, where the fold takes what it says
+-- the fold after a line that was written, where the fold takes what it says
 pub line_taken : (s behind : FoldState) (said : RecordLine) (line rest text : List ℕ) (t : ℕ) → text ≡ line ++ lf ∷ rest → IsWritten line said → state_after_record s said ≡ Ok behind →
     pieces_where_done s (whole_lines_of text) t ≡ (if eqb behind.done t then Some behind.settled else pieces_where_done behind (whole_lines_of rest) t)
 line_taken s behind said line rest text t split written takes =
@@ -131,7 +131,7 @@ first_record word t members more rest =
     append_assoc (record_line word t members) (records_text word t more) rest
     ∙ append_assoc (body word t members) (codes "\n") (records_text word t more ++ rest)
 
--- the fold behind some lines, at which nothing more is done
+-- the fold after some lines, at which nothing more is done
 record Leads (s : FoldState) (text rest : List ℕ) (t : ℕ) (Then : FoldState → Type 0) : Type 0 where
   behind : FoldState
   so : Then behind
@@ -148,7 +148,7 @@ rest_ascends : (p : PieceValue) (pieces : List PieceValue) → Ascends (p ∷ pi
 unfolding IsStrictlySortedBy
 rest_ascends p pieces s = s.1
 
--- a piece behind p isn't p
+-- a piece after p isn't p
 other_behind : (p q : PieceValue) → is_above (Some p) q ≡ true → is_same_piece q p ≡ false
 other_behind p q above =
     ap is_eq (piece_cmp_total.antisymm q p)
@@ -281,7 +281,7 @@ module _ (pattern : Pattern) (us : List Update) (small : pattern.size ≤ most_m
             ∙ ap (λ ps. if eqb (suc i) t then Some ps else pieces_where_done (after_done news.behind (suc i)) (whole_lines_of rest) t) there.settled_is;
       }
 
-  -- the text of the n timestamps behind i
+  -- the text of the n timestamps after i
   text_behind : ℕ → ℕ → List ℕ
   text_behind i zero = []
   text_behind i (suc n) = text_at pattern us (suc i) ++ text_behind (suc i) n

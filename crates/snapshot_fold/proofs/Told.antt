@@ -23,7 +23,7 @@ Outcome = Result (List PieceValue) FoldStop
 abbrev wholes : List Line → List Line
 wholes lines = filter (λ line. line.whole) lines
 
--- what the lines behind the first one come to
+-- what the lines after the first one come to
 abbrev pub rest_from : ℕ → Option ℕ → ℕ → Line → List Line → FoldState → Outcome
 rest_from most at n line lines behind = fold_outcome_from most at (cond line.whole (suc n) n) behind lines
 

@@ -3,7 +3,7 @@
 pub enum FoldFault {
     /// The piece is of another mode than the first one that was accepted.
     MixedModes,
-    /// The timestamp isn't the one behind the last that is done, or the piece does not follow the last
+    /// The timestamp isn't the one after the last that is done, or the piece does not follow the last
     /// one of its timestamp: pieces that go stand before those that come, and both ascend.
     OutOfOrder,
     /// The piece that is to come is there.

@@ -31,7 +31,7 @@ pub enum FoldStop {
     AddsPresent(u64),
     /// The piece that is to go at this line isn't there.
     RemovesAbsent(u64),
-    /// The text ended behind so many whole lines, and the timestamp wasn't done.
+    /// The text ended after so many whole lines, and the timestamp wasn't done.
     NotDone(u64),
     /// This line has more than 4,096 bytes.
     TooLong(u64),
@@ -81,8 +81,8 @@ impl From<LineFault> for FoldStop {
 }
 
 /// Folds a text of records, of at most `most_lines` lines, and gives the pieces at timestamp `at`, or else
-/// at the last one that is done when the text ends; ascending, each once. Records behind that one are
-/// judged all the same, but nothing is behind the line that closes `at`. A last line without LF is dropped.
+/// at the last one that is done when the text ends; ascending, each once. Records after that one are
+/// judged all the same, but nothing is after the line that closes `at`. A last line without LF is dropped.
 ///
 /// It holds the pieces that are there and what the open timestamp changed, beside one block of 32 KiB. It
 /// takes time linear in the bytes, and for each record logarithmic in the number of pieces held.

@@ -59,7 +59,7 @@ fn put_up_to<'a>(
     Ok(left)
 }
 
-/// What stands behind the first of some pieces, where that is the piece given.
+/// What stands after the first of some pieces, where that is the piece given.
 fn behind_first<'a>(came: &'a [Piece], piece: &Piece) -> Option<&'a [Piece]>
     ensures { MatchOption result
         (begins_with came.now piece.now ≡ false)

@@ -8,7 +8,7 @@ use std::alloc::Global;
 use std::process::Abort;
 use std::test::Fail;
 
-/// A text, and behind it so many `#`; how often the source is read before it fails, if it does.
+/// A text, and after it so many `#`; how often the source is read before it fails, if it does.
 #[derive(Clone, Copy)]
 struct Given<'a> {
     text: &'a [u8],

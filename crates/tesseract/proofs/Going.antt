@@ -188,7 +188,7 @@ unless_unread_clean n (streaming pattern names g) unread read so = so
 
 module _ (most : ℕ) (bytes was is text : List ℕ) (old new : Reading) (stage : Stage) (t : ℕ)
     (at : AtLine most bytes was text old stage t) where
-  -- the text so far is a front of the whole
+  -- the text so far is a prefix of the whole
   front_at : IsPrefixOfText most bytes text
   front_at = (
     text_from_stage stage t (verdict_from most old.number stage (lines_of (old.held ++ was))),

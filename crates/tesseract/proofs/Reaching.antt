@@ -95,7 +95,7 @@ led_pattern n pattern names g (moved (streaming other later now)) rest f same =
 led_pattern n pattern names g (accepted u other later now) rest f same =
     ap (λ q. (rest (streaming q later now)).pattern) f.0 ∙ same later now
 
--- a verdict behind a stage of the stream has the stage's program
+-- a verdict after a stage of the stream has the stage's program
 streaming_pattern : (most n : ℕ) (pattern : Pattern) (names : Names) (g : Graph) (lines : List Line) →
     (verdict_from most n (streaming pattern names g) lines).pattern ≡ Some pattern
 streaming_pattern most n pattern names g [] = refl
@@ -111,7 +111,7 @@ Reached-start most =
     record { whole_text = λ lines. refl; whole_end = λ lines. refl; whole_stop = λ lines. refl }
 
 module _ (most n : ℕ) (stage : Stage) (line : Line) where
-  -- the verdict on a line and those behind it, by what the line does
+  -- the verdict on a line and those after it, by what the line does
   judge-cons : (j : Judgement) → judgement most (suc n) stage line.bytes ≡ j → (lines : List Line) →
       verdict_from most n stage (line ∷ lines) ≡ verdict_after n stage j (λ next. verdict_from most (suc n) next lines)
   judge-cons j is lines = ap (λ j. verdict_after n stage j (λ next. verdict_from most (suc n) next lines)) is
@@ -135,7 +135,7 @@ text_behind-moved most n t (streaming pattern names g) (streaming same later now
 
 module _ (most : ℕ) (gone : List Line) (text : List ℕ) (n t : ℕ) (stage : Stage) (line : Line)
     (reached : HasReached most gone text n t stage) where
-  -- the lines so far, this one, and those behind it
+  -- the lines so far, this one, and those after it
   regrouped : (lines : List Line) → (gone ++ line ∷ []) ++ lines ≡ gone ++ line ∷ lines
   regrouped lines = append_assoc gone (line ∷ []) lines
 

@@ -281,7 +281,7 @@ module _ (old new : Reading) (was is : Option (List ℕ)) (job : Job) (n : ℕ) 
                 running,
           )
 
-      -- memory is wanted at the line
+      -- memory runs out at the line
       pub turn_starves : IsEnd status.NoMemory
           × HasEnded old.most left0 is written0 written page status.NoMemory
       turn_starves = (
@@ -312,7 +312,7 @@ StandsBetween-start most left written page reader job nothing begun stamp line n
       stamped = omega (arith, stamp);
     })
 
--- a run ends behind a line, if it does so from wherever it stands
+-- a run ends after a line, if it does so from wherever it stands
 pub StandsBetween-ends : (most : ℕ) (left0 left left' written0 written written' : Option (List ℕ))
     (page page' : List ℕ) (reader : Reading) (job : Job) (why : Status) →
     StandsBetween most left0 left written0 written page reader job →

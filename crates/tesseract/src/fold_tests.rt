@@ -17,7 +17,7 @@ use update_reader::{Item, read_line};
 use line_fields::Names;
 use update_rules::step;
 
-/// A header, the lines behind it, and how many of these are updates.
+/// A header, the lines after it, and how many of these are updates.
 #[derive(Clone, Copy)]
 struct Job {
     header: [&'static [u8]; 5],
@@ -246,7 +246,7 @@ fn records_fold_to_plain_listings(rt: HostRuntime) -> Result<(), Fail> {
     Ok(())
 }
 
-/// Two vertices that are joined, and one of them goes again; and behind how many bytes each timestamp is
+/// Two vertices that are joined, and one of them goes again; and after how many bytes each timestamp is
 /// done.
 const RECORDS: &[u8] =
     b"NEW 1 1\nDONE 1\nNEW 2 2\nDONE 2\nNEW 3 1 2\nDONE 3\nREM 4 1 2\nREM 4 2\nDONE 4\n";

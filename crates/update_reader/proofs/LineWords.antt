@@ -26,7 +26,7 @@ four_words (x ∷ y ∷ z ∷ w ∷ []) a b c d n e f g h =
     let first : Some a ≡ Some x = e in let second : Some b ≡ Some y = f in let third : Some c ≡ Some z = g in let last : Some d ≡ Some w = h in cc
 four_words (x ∷ y ∷ z ∷ w ∷ v ∷ ws) a b c d n e f g h = absurd (omega arith)
 
--- a line that says something is read by its keyword and the words behind that
+-- a line that says something is read by its keyword and the words after that
 pub Reads-words : (old : Names) (line word : List ℕ) (fields : List (List ℕ)) (k : Keyword) (result : Result Item UpdateFault) (new : Names)
     → is_nothing_line line ≡ false → words_of line ≡ word ∷ fields → Some k ≡ keyword_of word → ReadsForm old (form_with k fields) result new
     → ReadsLine old line result new

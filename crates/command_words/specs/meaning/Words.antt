@@ -49,7 +49,7 @@ is_dash b = eqb b 45
 abbrev pub is_equals : ℕ → Bool
 is_equals b = eqb b 61
 
--- what stands behind `--`
+-- what stands after `--`
 abbrev pub after_dashes : List ℕ → Option (List ℕ)
 after_dashes (a ∷ b ∷ text) = if is_dash a && is_dash b then Some text else None
 after_dashes word = None
@@ -98,7 +98,7 @@ number_named name settings = option_and_then (number_of 10) (value_named name se
 abbrev pub options_of : List Setting → Options
 options_of settings = record { at = number_named (codes "at") settings }
 
--- the options that the words behind a command give
+-- the options that the words after a command give
 abbrev pub options_of_words : Verb → List (List ℕ) → Option Options
 options_of_words verb words =
     option_and_then (λ settings. if is_in_order verb settings then Some (options_of settings) else None) (settings_of words)

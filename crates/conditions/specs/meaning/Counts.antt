@@ -45,7 +45,7 @@ least_of [] = 0
 least_of (n ∷ []) = n
 least_of (n ∷ k ∷ ns) = min n (least_of (k ∷ ns))
 
--- all pairs of an item of a list and one behind it
+-- all pairs of an item of a list and one after it
 abbrev pub item_pairs : List ℕ → List (ℕ × ℕ)
 item_pairs [] = []
 item_pairs (x ∷ xs) = map (λ y. (x, y)) xs ++ item_pairs xs

@@ -17,12 +17,12 @@ BothKnown None new P = ⊤
 BothKnown (Some old) None P = ⊥
 BothKnown (Some old) (Some new) P = P old new
 
--- Known bytes grow by some front of `text`.
+-- Known bytes grow by some prefix of `text`.
 pub record AppendsPrefix (old new : Option (List ℕ)) (text : List ℕ) : Type 0 where
   pub len : ℕ
   pub written : Appends old new (take len text)
 
--- All of `text` was appended, or after an error a front of it.
+-- All of `text` was appended, or after an error a prefix of it.
 pub record Puts {T E : Type 0} (old new : Option (List ℕ)) (text : List ℕ) (result : Result T E) : Type 0 where
   pub all : OnOk result (Appends old new text)
   pub front : OnErr result (AppendsPrefix old new text)
@@ -34,7 +34,7 @@ pub record PassesOn (old : Option (List ℕ)) (held : List ℕ) (new : Option (L
   pub rest : sent ++ holds ≡ held ++ text
 
 -- What was held and then `text` was passed on, and what of it was not written is held now. After an
--- error a front of all this was written.
+-- error a prefix of all this was written.
 pub record Gathers {T E : Type 0} (old : Option (List ℕ)) (held : List ℕ) (new : Option (List ℕ)) (holds text : List ℕ) (result : Result T E) : Type 0 where
   pub passed : OnOk result (PassesOn old held new holds text)
   pub front : OnErr result (AppendsPrefix old new (held ++ text))

@@ -77,12 +77,12 @@ line_text line = line.bytes ++ (if line.whole then lf ∷ [] else [])
 
 -- The next line was given. `was` and `is` are the bytes that the source has left before and after.
 pub record GivesLine (old new : Reading) (was is : List ℕ) : Type 0 where
-  -- it is the first of the lines to come, and those behind it are to come now
+  -- it is the first of the lines to come, and those after it are to come now
   pub lines : lines_of (old.held ++ was) ≡ new.line ∷ lines_of (new.held ++ is)
   -- no byte is lost
   pub bytes : old.held ++ was ≡ line_text new.line ++ (new.held ++ is)
 
--- The text ended. Where the line before was whole no byte is left; behind a last line without LF the end
+-- The text ended. Where the line before was whole no byte is left; after a last line without LF the end
 -- was seen already, and the source is not asked again.
 pub record GivesEnd (old new : Reading) (was is : List ℕ) : Type 0 where
   pub taken : old.held ++ was ≡ new.held ++ is

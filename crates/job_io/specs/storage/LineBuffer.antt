@@ -16,7 +16,7 @@ pub record FillsBlock (bytes : List ℕ) (line_start line_end start end : ℕ) :
   pub held : start ≤ end
   pub held_within : end ≤ BLOCK
 
--- More bytes came behind what was held, as many as the result says, and none only at the end of the
+-- More bytes came after what was held, as many as the result says, and none only at the end of the
 -- source. After a failure all is as it was.
 abbrev pub TakesBlock : {E : Type 0} → List ℕ → List ℕ → Option (List ℕ) → Option (List ℕ) → Result ℕ E → Type 0
 TakesBlock held now was is result = MatchResult result

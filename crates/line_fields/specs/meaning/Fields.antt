@@ -24,7 +24,7 @@ abbrev pub after_word : List ℕ → List ℕ
 after_word [] = []
 after_word (b ∷ bs) = if is_blank b then b ∷ bs else after_word bs
 
--- what stands behind the first i words
+-- what stands after the first i words
 abbrev pub skip_words : ℕ → List ℕ → List ℕ
 skip_words zero line = line
 skip_words (suc i) line = skip_words i (after_word (trim_start line))
@@ -51,7 +51,7 @@ abbrev pub value_after : ℕ → List ℕ → ℕ
 value_after n [] = n
 value_after n (d ∷ ds) = value_after (10 * n + (d - 48)) ds
 
--- a number with one more digit behind it, where it fits 64 bits
+-- a number with one more digit after it, where it fits 64 bits
 abbrev pub with_digit : ℕ → ℕ → Option ℕ
 with_digit n d = if is_digit d && nat_lt (10 * n + (d - 48)) (2 ^ 64) then Some (10 * n + (d - 48)) else None
 

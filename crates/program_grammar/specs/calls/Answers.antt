@@ -22,14 +22,14 @@ HasRoom names said = (length names + most_tokens ≤ most_names) ⊎ FewNames sa
 abbrev pub BringsLabels : {A : Type 0} → Names → A × Names → List (List ℕ) → Type 0
 BringsLabels old read labels = (read.1 ≡ old ++ labels) × (length labels ≤ most_tokens)
 
--- Memory was wanted: the names are as they were, or the first of the labels that the line brings were added, and
+-- Memory ran out: the names are as they were, or the first of the labels that the line brings were added, and
 -- no others. A line that is refused brings none.
 abbrev pub RunsOut : {A : Type 0} → Names → Result (A × Names) Refusal → Names → Type 0
 RunsOut old (Ok read) new = (new ≡ old) ⊎ ((labels : List (List ℕ)) × BringsLabels old read labels × AddsFirst labels old new)
 RunsOut old (Err f) new = new ≡ old
 
 -- It was read, and the names are those then, with few more; or it was refused, and they are as they were; or
--- memory was wanted.
+-- memory ran out.
 abbrev pub AnswersReading : {A : Type 0} → Names → Result (A × Names) Refusal → Result A ReadError → Names → Type 0
 AnswersReading old said (Ok x) new = (said ≡ Ok (x, new)) × AddsNames most_tokens old new
 AnswersReading old said (Err error.NoMemory) new = RunsOut old said new

@@ -21,7 +21,7 @@ token_of (Op o) = spec.op o
 abbrev pub YieldsToken : List spec.Token → Option Token → List spec.Token → Type 0
 YieldsToken old token new = MatchOption token ((old ≡ []) × (new ≡ [])) (λ t. old ≡ token_of t ∷ new)
 
--- the token at the front of a text and what stands behind it; none where only blanks are left
+-- the token at the start of a text and what stands after it; none where only blanks are left
 abbrev pub SplitsToken : List ℕ → Option (Token × Bor (List ℕ)) → Type 0
 SplitsToken text split = MatchOption split (tokens_in text ≡ []) (λ t. (tokens_in text ≡ token_of t.0 ∷ tokens_in t.1.now) × IsSome (tokens_of t.1.now))
 

@@ -34,12 +34,12 @@ pub record TakesTokens (old new : ReaderState) : Type 0 where
   pub shorter : length new.tokens ≤ length old.tokens
   pub known : new.known ≡ old.known
 
--- each of these is a label, and new behind the names and the labels before it
+-- each of these is a label, and new after the names and the labels before it
 abbrev pub AreNew : Names → List (List ℕ) → Type 0
 AreNew names [] = Unit {0}
 AreNew names (label ∷ labels) = IsTrue (is_label_word label) × (number_in names label ≡ None) × AreNew (names ++ label ∷ []) labels
 
--- what was read of the tokens, as a production says, or its refusal; or memory was wanted
+-- what was read of the tokens, as a production says, or its refusal; or memory ran out
 abbrev pub ReadsProduction : {A : Type 0} → Result A ReadError → ReaderState → Result (A × List Token × Names) Refusal → Type 0
 ReadsProduction (Ok x) left read = read ≡ Ok (x, left.tokens, left.names)
 ReadsProduction (Err error.NoMemory) left read = Unit {0}
@@ -61,7 +61,7 @@ pub record MissesToken (token : Token) (old new : ReaderState) : Type 0 where
   pub missed : tokens_after token old.tokens ≡ None
   pub unchanged : new ≡ old
 
--- What was read behind a use where there is room for `room` uses more: one of them, where a `+` is next; and
+-- What was read after a use where there is room for `room` uses more: one of them, where a `+` is next; and
 -- else none.
 abbrev pub ReadsUse : ℕ → ReaderState → Result (Option Factor) ReadError → ReaderState → Type 0
 ReadsUse room old (Ok (Some u)) new =
@@ -77,22 +77,22 @@ pub record NewLabels (left : ReaderState) (labels : List (List ℕ)) : Type 0 wh
   pub new : AreNew left.known labels
   pub few : length labels ≤ most_tokens
 
--- some names more, at most so many, stand behind the old ones
+-- some names more, at most so many, stand after the old ones
 pub record AddsNames (most : ℕ) (old new : Names) : Type 0 where
   pub more : Names
   pub behind : new ≡ old ++ more
   pub few : length more ≤ most
 
--- the first of these labels, and no others, were put behind the names
+-- the first of these labels, and no others, were put after the names
 abbrev pub AddsFirst : List (List ℕ) → Names → Names → Type 0
 AddsFirst labels old new = (n : ℕ) × (new ≡ old ++ take n labels)
 
--- a refusal is that of the definition, unless memory was wanted
+-- a refusal is that of the definition, unless memory ran out
 abbrev pub RefusesAs : {A : Type 0} → ReadError → Result A Refusal → Type 0
 RefusesAs error.NoMemory read = Unit {0}
 RefusesAs (error.Refused f) read = read ≡ Err f
 
--- the condition is read with these labels behind the names, each of them new
+-- the condition is read with these labels after the names, each of them new
 pub record Parses (names : Names) (said : Result (Cond × Names) Refusal) (c : Cond) (labels : List (List ℕ)) : Type 0 where
   pub read : said ≡ Ok (c, names ++ labels)
   pub new : AreNew names labels

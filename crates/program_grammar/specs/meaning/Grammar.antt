@@ -1,4 +1,4 @@
--- The grammar of conditions, over tokens. A production gives what was read, the tokens behind it and the
+-- The grammar of conditions, over tokens. A production gives what was read, the tokens after it and the
 -- names then; or why not, by the first token that offends.
 use Rattle.std.specs.Prelude.{ℕ, zero, suc, ◌-◌, codes, nat_lt, nat_le, List, [], ◌∷◌, ◌++◌, length, Option, None, Some, Result, Ok, Err, if◌then◌else◌}
 use Rattle.std.specs.Option.{option_map}
@@ -20,7 +20,7 @@ use Rattle.program_grammar.specs.declared.term_name.TermName.TheVariants as name
 use Rattle.program_grammar.specs.meaning.Token.{Token, is_same_token, bytes_in, digits_in, op_in, word, opening, closing, comma, plus, times}
 use Rattle.program_grammar.specs.meaning.Lexing.{tokens_of}
 
--- what was read, the tokens behind it, and the names then
+-- what was read, the tokens after it, and the names then
 abbrev pub ReadResult : Type 0 → Type 0
 ReadResult A = Result (A × List Token × Names) Refusal
 
@@ -32,7 +32,7 @@ abbrev pub ◌>>=◌ : {A B : Type 0} → Result A Refusal → (A → Result B R
 (Ok x) >>= f = f x
 (Err e) >>= f = Err e
 
--- the tokens behind this one, where it comes first
+-- the tokens after this one, where it comes first
 abbrev pub tokens_after : Token → List Token → Option (List Token)
 tokens_after t [] = None
 tokens_after t (u ∷ ts) = if is_same_token u t then Some ts else None
@@ -53,7 +53,7 @@ label_number_by names label None = (length names, names ++ label ∷ [])
 abbrev pub label_number : Names → List ℕ → ℕ × Names
 label_number names label = label_number_by names label (number_in names label)
 
--- the word, the number or the comparing sign that comes first, and the tokens behind it
+-- the word, the number or the comparing sign that comes first, and the tokens after it
 abbrev pub first_of : {A : Type 0} → (Token → Option A) → List Token → Option (A × List Token)
 first_of kind [] = None
 first_of kind (t ∷ ts) = option_map (λ x. (x, ts)) (kind t)
@@ -175,7 +175,7 @@ comparison ts names = do
   b ← bound o.1
   Ok (roll-Cond (form.Compare s.0 o.0 b.0), b.1, s.2)
 
--- what may stand behind one more `(`, and behind one more `not`
+-- what may stand after one more `(`, and after one more `not`
 pub record Nested : Type 0 where
   pub cond : Production Cond
   pub neg : Production Cond
@@ -221,12 +221,12 @@ or_chain nested_within = chain (word (codes "or")) (λ a b. roll-Cond (form.Or a
 unfoldable pub cond_within : Nested → Production Cond
 cond_within nested_within ts names = conj nested_within ts names >>= λ c. or_chain nested_within (length c.1) c.0 c.1 c.2
 
--- what may stand behind one more `(` or `not` where `room` more may be open: nothing, where none may
+-- what may stand after one more `(` or `not` where `room` more may be open: nothing, where none may
 unfoldable pub nested_within : ℕ → Nested
 nested_within zero = record { cond = λ ts names. Err TooDeep; neg = λ ts names. Err TooDeep }
 nested_within (suc room) = record { cond = cond_within (nested_within room); neg = neg (nested_within room) }
 
--- a condition, and nothing behind it
+-- a condition, and nothing after it
 abbrev pub nothing_after : Cond × List Token × Names → Result (Cond × Names) Refusal
 nothing_after (c, [], names) = Ok (c, names)
 nothing_after (c, t ∷ ts, names) = Err BadLine

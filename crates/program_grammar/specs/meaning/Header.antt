@@ -69,7 +69,7 @@ size_said (Some digits) = size_in_range (number_of 10 digits)
 unfoldable pub size_of : List (List ℕ) → Result ℕ Refusal
 size_of words = size_said (value_of (codes "size") words)
 
--- a condition behind the first word, which has to be this one
+-- a condition after the first word, which has to be this one
 unfoldable pub condition_after_word : List ℕ → List ℕ → Names → Result (Cond × Names) Refusal
 condition_after_word text line names = if is_first text (words_of line) then condition_of (rest_of line 1) names else Err BadLine
 

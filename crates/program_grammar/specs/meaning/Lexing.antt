@@ -6,7 +6,7 @@ use Rattle.line_fields.specs.meaning.Fields.{is_blank, is_digit, is_label_start,
 use Rattle.conditions.specs.declared.condition.Op.TheVariants.{AtMost, Below, AtLeast, Above, Equal, Unequal}
 use Rattle.program_grammar.specs.meaning.Token.{Token, word, number, opening, closing, comma, plus, times, op}
 
--- the sign at the front of a text, and how many bytes it has
+-- the sign at the start of a text, and how many bytes it has
 abbrev pub sign_at : List ℕ → Option (Token × ℕ)
 sign_at text =
     if starts_with nat_eq text (codes "(") then Some (opening, 1)
@@ -22,7 +22,7 @@ sign_at text =
     else if starts_with nat_eq text (codes "!=") then Some (op Unequal, 2)
     else None
 
--- The token at the front of a text, and how many bytes it has. A word is a letter or `_` and then letters,
+-- The token at the start of a text, and how many bytes it has. A word is a letter or `_` and then letters,
 -- digits, `_` and `-`, a number is digits, and both go on as long as they can.
 abbrev pub token_at : List ℕ → Option (Token × ℕ)
 token_at [] = None

@@ -19,7 +19,7 @@ use Rattle.program_grammar.specs.meaning.Header.{awaited_word, header_said}
 abbrev pub ProgramOutcome : Type 0
 ProgramOutcome = Result ProgramValue ProgramFault × Names
 
--- what a line leads to, by what the lines behind it say
+-- what a line leads to, by what the lines after it say
 abbrev pub outcome_after_line : (HeaderReader → Names → ProgramOutcome) → ℕ → Names → Result (HeaderStep × Names) Refusal → ProgramOutcome
 outcome_after_line later number names (Ok (More next, after)) = later next after
 outcome_after_line later number names (Ok (Ready p, after)) = (Ok p, after)
@@ -55,7 +55,7 @@ conditions_left (header.Begin n f c) = 0
 abbrev pub RoomFor : HeaderReader → Names → Type 0
 RoomFor h names = length names + conditions_left h * most_tokens ≤ most_names
 
--- memory was wanted at one of the lines, behind those that led on
+-- memory ran out at one of the lines, after those that led on
 abbrev pub runs_out_next : (HeaderReader → Names → Type 0) → Result (HeaderStep × Names) Refusal → Type 0
 runs_out_next later (Ok (More next, after)) = later next after
 runs_out_next later said = ⊥
@@ -65,7 +65,7 @@ LinesRunOut h [] names new = ⊥
 LinesRunOut h (line ∷ lines) names new =
     RunsOut names (header_said h line names) new ⊎ runs_out_next (λ next after. LinesRunOut next lines after new) (header_said h line names)
 
--- the answer is what the lines say, and the names are those then; or memory was wanted
+-- the answer is what the lines say, and the names are those then; or memory ran out
 abbrev pub ReadsProgram : List (List ℕ) → Names → Result ProgramValue ProgramFault → Names → Type 0
 ReadsProgram lines old (Err fault.NoMemory) new = LinesRunOut header.Mode lines old new
 ReadsProgram lines old result new = program_said lines old ≡ (result, new)

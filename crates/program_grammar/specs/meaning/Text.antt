@@ -17,7 +17,7 @@ use Rattle.filter_polarity.specs.meaning.Program.{ProgramValue}
 abbrev pub label_text : Names → ℕ → List ℕ
 label_text names l = unwrap_or (slice_get names l) []
 
--- a term's name, with its labels in parentheses right behind it
+-- a term's name, with its labels in parentheses right after it
 abbrev pub term_text : Names → Term → List ℕ
 term_text names (Vertices None) = codes "vertices"
 term_text names (Vertices (Some l)) = codes "vertices(" ++ label_text names l ++ codes ")"

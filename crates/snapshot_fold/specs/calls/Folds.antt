@@ -22,7 +22,7 @@ pub record IsUnended (most : ℕ) (at : Option ℕ) (bytes is : List ℕ) : Type
   pub none_refused : fold_outcome most None (whole_lines_of taken) ≡ Ok pieces
   pub to_come : IsToCome at (last_done (whole_lines_of taken))
 
--- What a fold gives, by its result: what the lines of the text come to, unless memory was wanted or the
+-- What a fold gives, by its result: what the lines of the text come to, unless memory ran out or the
 -- source failed. The source had left0 and has `left`, where it tells.
 abbrev pub FoldsRecords : ℕ → Option ℕ → Option (List ℕ) → Option (List ℕ) →
     Result (List PieceValue) FoldStop → Type 0

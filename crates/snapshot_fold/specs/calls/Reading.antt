@@ -17,11 +17,11 @@ stop_of line.ReadFault = stop.ReadFault
 stop_of (line.TooLong n) = stop.TooLong n
 stop_of (line.TooMany n) = stop.TooMany n
 
--- this is the outcome, unless memory was wanted
+-- this is the outcome, unless memory ran out
 abbrev pub IsOutcome : Result (List PieceValue) FoldStop → Result (List PieceValue) FoldStop → Type 0
 IsOutcome result outcome = (result ≡ outcome) ⊎ (result ≡ Err stop.NoMemory)
 
--- this is why a line stops a fold, unless memory was wanted
+-- this is why a line stops a fold, unless memory ran out
 abbrev pub IsStopOf : Result FoldState FoldStop → FoldStop → Type 0
 IsStopOf led why = (led ≡ Err why) ⊎ (why ≡ stop.NoMemory)
 

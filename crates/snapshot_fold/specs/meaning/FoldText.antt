@@ -12,7 +12,7 @@ abbrev pub accepted_state : Result FoldState FoldFault → Option FoldState
 accepted_state (Ok behind) = Some behind
 accepted_state (Err fault) = None
 
--- the fold behind a line, where the line is a record or nothing, and has no fault
+-- the fold after a line, where the line is a record or nothing, and has no fault
 abbrev pub state_after_line : FoldState → Line → Option FoldState
 state_after_line s line = option_and_then (λ said. accepted_state (state_after_record s said)) (record_of (without_cr line.bytes))
 

@@ -30,7 +30,7 @@ abbrev pub state_after_content : ℕ → FoldState → Option RecordLine → Res
 state_after_content n s None = Err (stop.BadLine n)
 state_after_content n s (Some said) = state_or_stop n (state_after_record s said)
 
--- The fold behind line n, where at most `most` lines are allowed, or why it stops there. A last line
+-- The fold after line n, where at most `most` lines are allowed, or why it stops there. A last line
 -- without LF is dropped, but its limits count.
 abbrev pub state_after_one_line : ℕ → ℕ → FoldState → Line → Result FoldState FoldStop
 state_after_one_line most n s line =
@@ -44,18 +44,18 @@ abbrev pub is_reached : Option ℕ → ℕ → Bool
 is_reached None done = false
 is_reached (Some t) done = eqb done t
 
--- what a fold comes to where its text ends behind n whole lines
+-- what a fold comes to where its text ends after n whole lines
 abbrev pub outcome_at_end : Option ℕ → ℕ → FoldState → Result (List PieceValue) FoldStop
 outcome_at_end None n s = Ok s.settled
 outcome_at_end (Some t) n s = Err (stop.NotDone n)
 
--- what a line leads to, by what comes behind it
+-- what a line leads to, by what comes after it
 abbrev pub outcome_after : Result FoldState FoldStop → (FoldState → Result (List PieceValue) FoldStop) →
     Result (List PieceValue) FoldStop
 outcome_after (Ok behind) rest = rest behind
 outcome_after (Err why) rest = Err why
 
--- What the lines behind n whole ones come to. Where the timestamp that was named is done, nothing more is
+-- What the lines after n whole ones come to. Where the timestamp that was named is done, nothing more is
 -- read.
 abbrev pub fold_outcome_from : ℕ → Option ℕ → ℕ → FoldState → List Line → Result (List PieceValue) FoldStop
 fold_outcome_from most at n s [] = if is_reached at s.done then Ok s.settled else outcome_at_end at n s
@@ -69,7 +69,7 @@ fold_outcome_from most at n s (line ∷ lines) =
 abbrev pub fold_outcome : ℕ → Option ℕ → List Line → Result (List PieceValue) FoldStop
 fold_outcome most at lines = fold_outcome_from most at 0 empty_fold lines
 
--- the last timestamp that is done behind a line
+-- the last timestamp that is done after a line
 abbrev pub done_after_record : ℕ → Option RecordLine → ℕ
 done_after_record t (Some (Done u)) = u
 done_after_record t said = t

@@ -19,7 +19,7 @@ is_other_mode (Some first) mode = not (is_eq (mode_cmp first mode))
 abbrev pub is_of_other_mode : FoldState → PieceValue → Bool
 is_of_other_mode s p = is_other_mode s.mode p.mode
 
--- the timestamp is the one behind the last that is done
+-- the timestamp is the one after the last that is done
 abbrev pub is_open : FoldState → ℕ → Bool
 is_open s t = eqb t (s.done + 1)
 
@@ -43,7 +43,7 @@ after_new s p = record s { mode = Some p.mode; held = with_piece s.held p; last_
 abbrev pub after_done : FoldState → ℕ → FoldState
 after_done s t = record s { done = t; settled = s.held; last_rem = None; last_new = None }
 
--- the fold behind a record, or the record's first fault
+-- the fold after a record, or the record's first fault
 abbrev pub state_after_record : FoldState → RecordLine → Result FoldState FoldFault
 state_after_record s Nothing = Ok s
 state_after_record s (Rem t p) =
@@ -58,7 +58,7 @@ state_after_record s (Add t p) =
     else Ok (after_new s p)
 state_after_record s (Done t) = if is_open s t then Ok (after_done s t) else Err OutOfOrder
 
--- a refusal is the record's first fault, or want of memory where it has none
+-- a refusal is the record's first fault, or out of memory where it has none
 abbrev pub IsRecordRefusal : Result FoldState FoldFault → FoldFault → Type 0
 IsRecordRefusal (Ok behind) fault = fault ≡ NoMemory
 IsRecordRefusal (Err first) fault = fault ≡ first

@@ -44,7 +44,7 @@ pub record StopsAs (most : ℕ) (at : Option ℕ) (bytes : List ℕ) (why : Stat
 abbrev pub pieces_text : List PieceValue → List ℕ
 pieces_text pieces = listing_text (members_of_all pieces)
 
--- What folding leaves, by its status: the pieces are written; or a front of them where the sink failed; or
+-- What folding leaves, by its status: the pieces are written; or a prefix of them where the sink failed; or
 -- nothing. The source had left0 and has `left`, the sink had written0 and has `written`, where they tell;
 -- `at` is the timestamp that is named, if one is, and at most `most` lines are allowed.
 abbrev pub Folds : ℕ → Option ℕ → Option (List ℕ) → Option (List ℕ) → Option (List ℕ) →

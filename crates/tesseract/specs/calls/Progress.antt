@@ -11,7 +11,7 @@ text_from_stage (heading next names) t v = text_under v.pattern v.updates
 text_from_stage (streaming pattern names g) t v = text_from pattern g t v.updates
 
 -- After these n lines the job stands at a stage, with t timestamps whose text this is: whatever
--- lines follow, the verdict on all is that on those behind the stage.
+-- lines follow, the verdict on all is that on those after the stage.
 pub record HasReached (most : ℕ) (gone : List Line) (text : List ℕ) (n t : ℕ) (stage : Stage) :
     Type 0 where
   pub whole_text : (lines : List Line) →

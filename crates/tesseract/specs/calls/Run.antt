@@ -34,7 +34,7 @@ WritesUnread most left0 left written0 written =
     BothKnown left0 left (λ bytes is.
     (text : List ℕ) × IsPrefixOfJob most bytes is text × Appends written0 written text)
 
--- A front of the input's text is written.
+-- A prefix of the input's text is written.
 abbrev pub WritesPrefix : ℕ → Option (List ℕ) → Option (List ℕ) → Option (List ℕ) →
     Option (List ℕ) → Type 0
 WritesPrefix most left0 left written0 written =

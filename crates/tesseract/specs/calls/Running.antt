@@ -69,14 +69,14 @@ IsEnd status.Usage = ⊥
 IsEnd status.WriteFault = ⊥
 IsEnd why = Unit {0}
 
--- a claim about the text where the source failed, none where memory was wanted, and another where the
+-- a claim about the text where the source failed, none where memory ran out, and another where the
 -- job came to its end
 abbrev pub IfUnread : Status → Type 0 → Type 0 → Type 0
 IfUnread status.ReadFault unread read = unread
 IfUnread status.NoMemory unread read = Unit {0}
 IfUnread why unread read = read
 
--- `text` is a front of the input's text.
+-- `text` is a prefix of the input's text.
 abbrev pub IsPrefixOfText : ℕ → List ℕ → List ℕ → Type 0
 IsPrefixOfText most bytes text =
     (more : List ℕ) × (job_text (verdict most (lines_of bytes)) ≡ text ++ more)

@@ -100,7 +100,7 @@ pub record Verdict : Type 0 where
   pub stop : Option Status
   pub close : Status
 
--- nothing more is read behind n lines
+-- nothing more is read after n lines
 abbrev pub verdict_at_end : ℕ → Stage → Option Status → Verdict
 verdict_at_end n (heading next names) stop =
     record {
@@ -117,13 +117,13 @@ abbrev pub with_update : Update → Verdict → Verdict
 with_update u v =
     record { pattern = v.pattern; updates = u ∷ v.updates; stop = v.stop; close = v.close }
 
--- what comes of a line behind n others, and of those behind it
+-- what comes of a line after n others, and of those after it
 abbrev pub verdict_after : ℕ → Stage → Judgement → (Stage → Verdict) → Verdict
 verdict_after n stage (refused why) rest = verdict_at_end n stage (Some why)
 verdict_after n stage (moved next) rest = rest next
 verdict_after n stage (accepted u pattern names g) rest = with_update u (rest (streaming pattern names g))
 
--- The lines behind n others, where at most `most` are allowed. The first that is refused ends all.
+-- The lines after n others, where at most `most` are allowed. The first that is refused ends all.
 abbrev pub verdict_from : ℕ → ℕ → Stage → List Line → Verdict
 verdict_from most n stage [] = verdict_at_end n stage None
 verdict_from most n stage (line ∷ lines) =

@@ -13,7 +13,7 @@ abbrev pub BringsName : Names → LineContent → Type 0
 BringsName old (update u new) = length old < length new
 BringsName old other = ⊥
 
--- The answer to what was said, and the names then. Memory is wanted only for a new name.
+-- The answer to what was said, and the names then. Memory runs out only for a new name.
 abbrev pub AnswersContent : Names → LineContent → Result Item UpdateFault → Names → Type 0
 AnswersContent old what (Ok item.Nothing) new = (new ≡ old) × (what ≡ nothing)
 AnswersContent old what (Ok item.Commit) new = (new ≡ old) × (what ≡ commit)

@@ -58,7 +58,7 @@ keyword_of word =
     else if bytes_eq word (codes "commit") then Some keyword.Commit
     else None
 
--- the form of a line by its keyword and the words behind that: what is added without a label gets `_`
+-- the form of a line by its keyword and the words after that: what is added without a label gets `_`
 abbrev pub form_with : Keyword → List (List ℕ) → Form
 form_with keyword.AddVertex (id ∷ []) = vertex_form (λ v l. AddVertex v l) id no_name
 form_with keyword.AddVertex (id ∷ label ∷ []) = vertex_form (λ v l. AddVertex v l) id label

@@ -6,7 +6,7 @@ use Rattle.mining_model.specs.meaning.Step.{Refusal, is_loop, no_vertex, vertex_
 use Rattle.update_rules.specs.declared.StepFault.{StepFault}
 use Rattle.update_rules.specs.declared.StepFault.TheVariants as fault
 
--- The fault is the reason for which the graph refuses the step. Want of memory is told only of a step
+-- The fault is the reason for which the graph refuses the step. Out of memory is told only of a step
 -- that the graph does not refuse.
 abbrev pub IsReason : Result Graph Refusal → StepFault → Type 0
 IsReason stepped fault.Loop = stepped ≡ Err is_loop

@@ -14,7 +14,7 @@ decreases-conj l = 4 * l.room + 2
 abbrev pub decreases-cond : goal.decreases-cond
 decreases-cond l = 4 * l.room + 3
 
--- what is left to read, behind what was read so far, gives what the whole gives
+-- what is left to read, after what was read so far, gives what the whole gives
 abbrev pub invariant-cond-loop-alloc : goal.invariant-cond-loop-alloc
 invariant-cond-loop-alloc l = record {
   turns : ℕ;
