@@ -50,7 +50,7 @@ pub(crate) fn parse<'t>(
 }
 
 impl ConditionReader<'_, '_> {
-    #[tactic(auto, unfolding(crate::specs::Grammar::operator))]
+    #[tactic(auto, unfolding(crate::specs::meaning::Grammar::operator))]
     fn operator(&mut self) -> Result<Op, Refusal>
         ensures takes { ReadsTokens self.old result self.new (operator self.old.tokens) }
         ensures goes_on { TakesTokens self.old self.new }
@@ -58,7 +58,7 @@ impl ConditionReader<'_, '_> {
         self.take_op().ok_or(Refusal::BadLine)
     }
 
-    #[tactic(auto, unfolding(crate::specs::Grammar::bound))]
+    #[tactic(auto, unfolding(crate::specs::meaning::Grammar::bound))]
     fn bound(&mut self) -> Result<u32, Refusal>
         ensures takes { ReadsTokens self.old result self.new (bound self.old.tokens) }
         ensures goes_on { TakesTokens self.old self.new }
@@ -68,7 +68,7 @@ impl ConditionReader<'_, '_> {
     }
 
     // Takes a sum that is compared with its bound.
-    #[tactic(auto, unfolding(crate::specs::Grammar::comparison))]
+    #[tactic(auto, unfolding(crate::specs::meaning::Grammar::comparison))]
     fn comparison(&mut self, alloc: Global) -> Result<Cond, ReadError>
         ensures reads { ReadsProduction result self.new (comparison self.old.tokens self.old.names) }
         ensures goes_on { TakesTokens self.old self.new }
@@ -81,7 +81,7 @@ impl ConditionReader<'_, '_> {
 
     // Takes what is no `not`, `and` or `or`. Up to `room` more `not` and parentheses may be open.
     #[cycle(condition)]
-    #[tactic(auto, unfolding(crate::specs::Grammar::atom))]
+    #[tactic(auto, unfolding(crate::specs::meaning::Grammar::atom))]
     fn atom(&mut self, alloc: Global, room: u32) -> Result<Cond, ReadError>
         ensures reads { ReadsProduction result self.new (atom (nested_within room) self.old.tokens self.old.names) }
         ensures goes_on { TakesTokens self.old self.new }
@@ -102,7 +102,7 @@ impl ConditionReader<'_, '_> {
     }
 
     #[cycle(condition)]
-    #[tactic(auto, unfolding(crate::specs::Grammar::neg))]
+    #[tactic(auto, unfolding(crate::specs::meaning::Grammar::neg))]
     fn neg(&mut self, alloc: Global, room: u32) -> Result<Cond, ReadError>
         ensures reads { ReadsProduction result self.new (neg (nested_within room) self.old.tokens self.old.names) }
         ensures goes_on { TakesTokens self.old self.new }
@@ -117,7 +117,7 @@ impl ConditionReader<'_, '_> {
     }
 
     #[cycle(condition)]
-    #[tactic(auto, unfolding(crate::specs::Grammar::conj))]
+    #[tactic(auto, unfolding(crate::specs::meaning::Grammar::conj))]
     fn conj(&mut self, alloc: Global, room: u32) -> Result<Cond, ReadError>
         ensures reads { ReadsProduction result self.new (conj (nested_within room) self.old.tokens self.old.names) }
         ensures goes_on { TakesTokens self.old self.new }
@@ -132,7 +132,7 @@ impl ConditionReader<'_, '_> {
 
     /// Takes a condition in which up to `room` `not` and parentheses may be open at once.
     #[cycle(condition)]
-    #[tactic(auto, unfolding(crate::specs::Grammar::cond_within))]
+    #[tactic(auto, unfolding(crate::specs::meaning::Grammar::cond_within))]
     pub(crate) fn cond(&mut self, alloc: Global, room: u32) -> Result<Cond, ReadError>
         ensures reads { ReadsProduction result self.new (cond_within (nested_within room) self.old.tokens self.old.names) }
         ensures goes_on { TakesTokens self.old self.new }

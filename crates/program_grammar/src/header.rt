@@ -114,7 +114,7 @@ impl HeaderReader {
         }
     }
 
-    #[tactic(auto, unfolding(crate::specs::Header::header_said, crate::specs::Header::said_by))]
+    #[tactic(auto, unfolding(crate::specs::meaning::Header::header_said, crate::specs::meaning::Header::awaited_line_said))]
     fn step(self, alloc: Global, line: &[u8], names: &mut Names) -> Result<HeaderStep, ReadError>
         requires { HasRoom names.old (header_said self line.now names.old) }
         ensures { AnswersReading names.old (header_said self line.now names.old) result names.new }
@@ -169,7 +169,7 @@ fn program(size: Size, filter: Filter, matching: Matching) -> Program
 }
 
 /// `mode vertex` or `mode edge`.
-#[tactic(auto, unfolding(crate::specs::Header::mode_of))]
+#[tactic(auto, unfolding(crate::specs::meaning::Header::mode_said))]
 fn read_mode(line: &[u8]) -> Result<Mode, Refusal>
     ensures { result ≡ mode_said (words_of line.now) }
 {
@@ -183,7 +183,7 @@ fn read_mode(line: &[u8]) -> Result<Mode, Refusal>
 }
 
 /// `size` and a number.
-#[tactic(auto, unfolding(crate::specs::Header::size_of))]
+#[tactic(auto, unfolding(crate::specs::meaning::Header::size_of))]
 fn read_size(line: &[u8]) -> Result<Size, Refusal>
     ensures { result ≡ size_of (words_of line.now) }
 {
@@ -237,7 +237,7 @@ fn read_matching(alloc: Global, line: &[u8], names: &mut Names) -> Result<Matchi
 }
 
 // The condition after the first word, which has to be this one, and the labels in it that the names lack.
-#[tactic(auto, unfolding(crate::specs::Header::condition_behind))]
+#[tactic(auto, unfolding(crate::specs::meaning::Header::condition_after_word))]
 fn parse_behind<'t>(
     alloc: Global,
     first: &[u8],

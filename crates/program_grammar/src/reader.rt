@@ -66,7 +66,7 @@ impl<'t, 'n> ConditionReader<'t, 'n> {
     }
 
     // Takes a label.
-    #[tactic(auto, unfolding(crate::specs::Grammar::label))]
+    #[tactic(auto, unfolding(crate::specs::meaning::Grammar::label))]
     pub(crate) fn label(&mut self) -> Result<LabelId, ReadError>
         ensures reads { ReadsProduction result self.new (label self.old.tokens self.old.names) }
         ensures goes_on { TakesTokens self.old self.new }

@@ -18,7 +18,7 @@ const MOST_TIMES: u32 = 100;
 
 impl ConditionReader<'_, '_> {
     // Takes the word with which a term begins.
-    #[tactic(auto, unfolding(crate::specs::Grammar::named_term))]
+    #[tactic(auto, unfolding(crate::specs::meaning::Grammar::named_term))]
     fn term_name(&mut self) -> Result<TermName, Refusal>
         ensures takes { ReadsTokens self.old result self.new (named_term self.old.tokens) }
         ensures goes_on { TakesTokens self.old self.new }
@@ -28,7 +28,7 @@ impl ConditionReader<'_, '_> {
     }
 
     // Takes a label in parentheses, if there is one.
-    #[tactic(auto, unfolding(crate::specs::Grammar::optional_label))]
+    #[tactic(auto, unfolding(crate::specs::meaning::Grammar::optional_label))]
     fn optional_label(&mut self) -> Result<Option<LabelId>, ReadError>
         ensures reads { ReadsProduction result self.new (optional_label self.old.tokens self.old.names) }
         ensures goes_on { TakesTokens self.old self.new }
@@ -42,7 +42,7 @@ impl ConditionReader<'_, '_> {
     }
 
     // Takes two labels in parentheses.
-    #[tactic(auto, unfolding(crate::specs::Grammar::two_labels))]
+    #[tactic(auto, unfolding(crate::specs::meaning::Grammar::two_labels))]
     fn two_labels(&mut self) -> Result<(LabelId, LabelId), ReadError>
         ensures reads { ReadsProduction result self.new (two_labels self.old.tokens self.old.names) }
         ensures goes_on { TakesTokens self.old self.new }
@@ -56,7 +56,7 @@ impl ConditionReader<'_, '_> {
     }
 
     // Takes what stands after the name of a term.
-    #[tactic(auto, unfolding(crate::specs::Grammar::term_behind))]
+    #[tactic(auto, unfolding(crate::specs::meaning::Grammar::term_after_name))]
     fn term_behind(&mut self, name: TermName) -> Result<Term, ReadError>
         ensures reads { ReadsProduction result self.new (term_after_name name self.old.tokens self.old.names) }
         ensures goes_on { TakesTokens self.old self.new }
@@ -75,7 +75,7 @@ impl ConditionReader<'_, '_> {
         }
     }
 
-    #[tactic(auto, unfolding(crate::specs::Grammar::term_of))]
+    #[tactic(auto, unfolding(crate::specs::meaning::Grammar::term_of))]
     fn term(&mut self) -> Result<Term, ReadError>
         ensures reads { ReadsProduction result self.new (term_of self.old.tokens self.old.names) }
         ensures goes_on { TakesTokens self.old self.new }
@@ -85,7 +85,7 @@ impl ConditionReader<'_, '_> {
     }
 
     // Takes a factor with its `*`, if there is one.
-    #[tactic(auto, unfolding(crate::specs::Grammar::factor))]
+    #[tactic(auto, unfolding(crate::specs::meaning::Grammar::factor))]
     fn factor(&mut self) -> Result<u32, Refusal>
         ensures takes { ReadsTokens self.old result self.new (factor self.old.tokens) }
         ensures goes_on { TakesTokens self.old self.new }
@@ -98,7 +98,7 @@ impl ConditionReader<'_, '_> {
         Ok(times)
     }
 
-    #[tactic(auto, unfolding(crate::specs::Grammar::use_of))]
+    #[tactic(auto, unfolding(crate::specs::meaning::Grammar::use_of))]
     fn use_of(&mut self) -> Result<Factor, ReadError>
         ensures reads { ReadsProduction result self.new (use_of self.old.tokens self.old.names) }
         ensures goes_on { TakesTokens self.old self.new }
@@ -123,7 +123,7 @@ impl ConditionReader<'_, '_> {
     }
 
     /// Takes a sum.
-    #[tactic(auto, unfolding(crate::specs::Grammar::sum_of))]
+    #[tactic(auto, unfolding(crate::specs::meaning::Grammar::sum_of))]
     pub(crate) fn sum(&mut self, alloc: Global) -> Result<FactorList, ReadError>
         ensures reads { ReadsProduction result self.new (sum_of self.old.tokens self.old.names) }
         ensures goes_on { TakesTokens self.old self.new }

@@ -2,7 +2,7 @@ ghost use Rattle.std.specs.Prelude.{◌≡◌, ◌≤◌, Bool, length, MatchOpt
 ghost use Rattle.std.specs.Option.{option_copied, option_map};
 ghost use Rattle.line_fields.specs.meaning.Fields.{is_digit, is_label_byte as continues_label};
 ghost use Rattle.program_grammar.specs.meaning.Lexing.{sign_at, token_at};
-ghost use Rattle.program_grammar.specs.meaning.Token.{bytes_in, digits_in, op_in, is_same as is_same_token};
+ghost use Rattle.program_grammar.specs.meaning.Token.{bytes_in, digits_in, op_in, is_same_token as is_same_token};
 ghost use Rattle.program_grammar.specs.calls.Cursor.{token_of};
 
 use conditions::Op;
