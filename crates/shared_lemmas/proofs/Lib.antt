@@ -1,0 +1,7 @@
+pub mod Ascending
+pub mod Booleans
+pub mod Claims
+pub mod FiniteMaps
+pub mod Membership
+pub mod Orderings
+pub mod Sets
