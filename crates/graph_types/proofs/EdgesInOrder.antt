@@ -5,7 +5,6 @@ use Rattle.std.specs.List.Sorted.{IsStrictlySortedBy}
 use Rattle.std.specs.Map.{keys_of}
 use Rattle.std.specs.Ordering.{nat_cmp, ordering_then}
 use Rattle.std.specs.Cmp.{nat_cmp_total, tied_itself}
-use Rattle.std.specs.declared.cmp.Ordering.{Ordering}
 use Rattle.std.specs.declared.cmp.Ordering.TheVariants.{Less}
 use Rattle.std.specs.FinMap as map
 use Rattle.std.proofs.lemmas.List.{map-append}
@@ -15,17 +14,9 @@ use Rattle.graph_types.specs.meaning.Graph.{pair_cmp}
 use Rattle.graph_types.specs.storage.Adjacency.{Rows, edges_from, graph_of_rows, goes_up}
 use Rattle.graph_types.specs.meaning.Orders.{pair_cmp_total}
 use Rattle.graph_types.proofs.Views.{keys-seen}
-use Rattle.graph_types.proofs.Rows.{keys_rise}
-
-module _ {K : Type 0} where
-  all_join : (P : K → Type 0) (xs ys : List K) → AllByRecursion P xs → AllByRecursion P ys → AllByRecursion P (xs ++ ys)
-  all_join P [] ys h g = g
-  all_join P (x ∷ xs) ys h g = (h.0, all_join P xs ys h.1 g)
-
-  rises_join : (R : K → K → Ordering) (xs ys : List K) → IsStrictlySortedBy R xs → IsStrictlySortedBy R ys → AllByRecursion (λ x. AllByRecursion (λ y. R x y ≡ Less) ys) xs → IsStrictlySortedBy R (xs ++ ys)
-  unfolding IsStrictlySortedBy
-  rises_join R [] ys h g below = g
-  rises_join R (x ∷ xs) ys h g below = (all_join (λ y. R x y ≡ Less) xs ys h.0 below.0, rises_join R xs ys h.1 g below.1)
+use Rattle.shared_lemmas.proofs.Ascending.{IsStrictlySortedBy-append}
+use Rattle.shared_lemmas.proofs.Claims.{all-append}
+use Rattle.shared_lemmas.proofs.FiniteMaps.{keys_rise}
 
 -- the edges from v to each of ws
 abbrev pairs : ℕ → List ℕ → List (ℕ × ℕ)
@@ -63,7 +54,7 @@ keys-edges_of (row ∷ rows) =
 above_edges_of : (v w : ℕ) (rows : List (ℕ × Vertex)) → AllByRecursion (λ u. nat_cmp v u ≡ Less) (keys_of rows) → AllByRecursion (λ e. pair_cmp (v, w) e ≡ Less) (edges_of rows)
 unfolding edges_of
 above_edges_of v w [] h = tt
-above_edges_of v w (row ∷ rows) h = all_join _ (pairs row.0 (map.keys row.1.near)) (edges_of rows) (above_pairs v w row.0 h.0 (map.keys row.1.near)) (above_edges_of v w rows h.1)
+above_edges_of v w (row ∷ rows) h = all-append _ (pairs row.0 (map.keys row.1.near)) (edges_of rows) (above_pairs v w row.0 h.0 (map.keys row.1.near)) (above_edges_of v w rows h.1)
 
 each_below : (v : ℕ) (ws : List ℕ) (rows : List (ℕ × Vertex)) → AllByRecursion (λ u. nat_cmp v u ≡ Less) (keys_of rows) → AllByRecursion (λ d. AllByRecursion (λ e. pair_cmp d e ≡ Less) (edges_of rows)) (pairs v ws)
 each_below v [] rows h = tt
@@ -73,7 +64,7 @@ edges_rise : (rows : List (ℕ × Vertex)) → IsStrictlySortedBy nat_cmp (keys_
 unfolding edges_of IsStrictlySortedBy
 edges_rise [] sorted = tt
 edges_rise (row ∷ rows) sorted =
-    rises_join pair_cmp (pairs row.0 (map.keys row.1.near)) (edges_of rows) (pairs_rise row.0 (map.keys row.1.near) (keys_rise row.1.near)) (edges_rise rows sorted.1) (each_below row.0 (map.keys row.1.near) rows sorted.0)
+    IsStrictlySortedBy-append pair_cmp (pairs row.0 (map.keys row.1.near)) (edges_of rows) (pairs_rise row.0 (map.keys row.1.near) (keys_rise row.1.near)) (edges_rise rows sorted.1) (each_below row.0 (map.keys row.1.near) rows sorted.0)
 
 up_edges_of : (rows : List (ℕ × Vertex)) → flat_map (λ row. filter goes_up (map (λ w. (row.0, w)) (map.keys row.1.near))) rows ≡ filter goes_up (edges_of rows)
 unfolding edges_of

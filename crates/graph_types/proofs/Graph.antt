@@ -1,15 +1,15 @@
 -- The order of edges, what a new entry does to a graph, and that both ends of each edge stay in it.
-use Rattle.std.proofs.Common.{◌≡◌, ◌≢◌, ◌&&◌, ℕ, Bool, true, false, not, eqb, IsTrue, refl, sym, ap, subst, ◌∙◌, cond, Option, None, Some, ◌⊎◌, ⊎_elim, min, max, arith}
+use Rattle.std.proofs.Common.{◌≡◌, ◌≢◌, ℕ, Bool, true, false, not, eqb, IsTrue, refl, sym, ap, subst, ◌∙◌, cond, Option, None, Some, ◌⊎◌, ⊎_elim, min, max, arith}
 use Rattle.std.specs.Option.{is_some}
 use Rattle.std.specs.Ordering.{nat_cmp, eq_by_cmp, is_eq, ordering_then}
-use Rattle.std.specs.Cmp.{IsTotalOrder, nat_cmp_total, tied_itself}
-use Rattle.std.specs.declared.cmp.Ordering.{Ordering}
+use Rattle.std.specs.Cmp.{nat_cmp_total}
 use Rattle.std.specs.declared.cmp.Ordering.TheVariants.{Less, Equal, Greater}
 use Rattle.std.specs.FinMap as map
-use Rattle.std.proofs.lemmas.Bool.{false≢true, not-true, or_parts}
+use Rattle.std.proofs.lemmas.Bool.{and_parts, false≢true, not-true, or_parts}
 use Rattle.std.proofs.lemmas.Bool.Decides.{nat_tests}
-use Rattle.graph_types.specs.meaning.Graph.{Graph, has_vertex, has_edge, edge_between, is_joined, EdgesHaveEnds, HasEnds, empty_graph, with_vertex, with_edge, without_vertex, without_edge, ends_at, pair_cmp}
+use Rattle.graph_types.specs.meaning.Graph.{Graph, has_vertex, edge_between, label_between, EdgesHaveEnds, HasEnds, empty_graph, with_vertex, with_edge, without_vertex, without_edge, ends_at, pair_cmp}
 use Rattle.graph_types.specs.meaning.Orders.{pair_cmp_total}
+use Rattle.shared_lemmas.proofs.FiniteMaps.{contains_key-insert, contains_key-inserted, contains_key-kept}
 
 pub pair_cmp-IsAntisymmetric : map.IsAntisymmetric pair_cmp
 pair_cmp-IsAntisymmetric e f tied =
@@ -19,15 +19,9 @@ pair_cmp-IsAntisymmetric e f tied =
       | Greater ↦ λ _ t. cc
     ] refl tied
 
-contains_key-insert : {K X : Type 0} {R : K → K → Ordering} → IsTotalOrder R → (m : map.FinMap R X) (k : K) (v : X) (q : K) → IsTrue (map.contains_key m q) → IsTrue (map.contains_key (map.insert m k v) q)
-contains_key-insert {R = R} total m k v q had =
-    subst (λ found. IsTrue (is_some found)) (sym (map.get-insert total m k v q))
-    (elim (eq_by_cmp R q k) as (λ b. IsTrue (is_some (cond b (Some v) (map.get m q)))) [ true ↦ refl | false ↦ had ])
-
 -- a vertex that was put is there, and those that were there stay
 pub has_vertex-with_vertex : (g : Graph) (v label : ℕ) → IsTrue (has_vertex (with_vertex g v label) v)
-has_vertex-with_vertex g v label =
-    ap is_some (map.get-insert nat_cmp_total g.labels v label v) ∙ ap (λ r. is_some (cond (is_eq r) (Some label) (map.get g.labels v))) (tied_itself nat_cmp_total v)
+has_vertex-with_vertex g v label = contains_key-inserted nat_cmp_total g.labels v label
 
 pub has_vertex-kept : (g : Graph) (v label w : ℕ) → IsTrue (has_vertex g w) → IsTrue (has_vertex (with_vertex g v label) w)
 has_vertex-kept g v label w = contains_key-insert nat_cmp_total g.labels v label w
@@ -69,20 +63,16 @@ some_of_others : {X : Type 0} (b : Bool) (found : Option X) → IsTrue (is_some 
 some_of_others true found h = absurd (false≢true h)
 some_of_others false found h = (refl, h)
 
-some_of_kept : {X : Type 0} (b : Bool) (found : Option X) → IsTrue (is_some (cond b found None)) → IsTrue b × IsTrue (is_some found)
-some_of_kept true found h = (refl, h)
-some_of_kept false found h = absurd (false≢true h)
-
 pub EdgesHaveEnds-without_edge : (g : Graph) (e : ℕ × ℕ) → EdgesHaveEnds g → EdgesHaveEnds (without_edge g e)
 EdgesHaveEnds-without_edge g e ends f has =
     let had = some_of_others (eq_by_cmp pair_cmp f e) (map.get g.edges f) (ap is_some (sym (map.get-remove pair_cmp_total g.edges e f)) ∙ has) in
     record { low = (ends f had.1).low; high = (ends f had.1).high }
 
--- two different vertices are joined where the graph has their edge
-pub joined-at : (g : Graph) (v w : ℕ) (e : ℕ × ℕ) → v ≢ w → e ≡ edge_between v w → has_edge g e ≡ is_joined g v w
-joined-at g v w e apart is =
+-- between two different vertices is the label of their edge
+pub label-at : (g : Graph) (v w : ℕ) (e : ℕ × ℕ) → v ≢ w → e ≡ edge_between v w → map.get g.edges e ≡ label_between g v w
+label-at g v w e apart is =
     let differ : eqb v w ≡ false = grind (arith, nat_tests) in
-    ap (has_edge g) is ∙ ap (λ b. not b && has_edge g (edge_between v w)) (sym differ)
+    ap (map.get g.edges) is ∙ ap (λ b. cond b None (map.get g.edges (edge_between v w))) (sym differ)
 
 -- a vertex other than the one taken out stays
 pub has_vertex-without_vertex : (g : Graph) (v w : ℕ) → eqb v w ≡ false → IsTrue (has_vertex g w) → IsTrue (has_vertex (without_vertex g v) w)
@@ -93,8 +83,7 @@ has_vertex-without_vertex g v w apart has =
 pub EdgesHaveEnds-without_vertex : (g : Graph) (v : ℕ) → EdgesHaveEnds g → EdgesHaveEnds (without_vertex g v)
 EdgesHaveEnds-without_vertex g v ends e has =
     let stays : ℕ × ℕ → Bool = λ f. not (ends_at v f) in
-    let found = map.get-retain_keys g.edges stays e (λ f tied. ap stays (sym (pair_cmp-IsAntisymmetric e f tied))) in
-    let had = some_of_kept (stays e) (map.get g.edges e) (ap is_some (sym found) ∙ has) in
+    let had = and_parts (stays e) _ (sym (contains_key-kept pair_cmp-IsAntisymmetric g.edges stays e) ∙ has) in
     let apart = or_parts (eqb v e.0) (eqb v e.1) (not-true _ had.0) in
     record {
       low = has_vertex-without_vertex g v e.0 apart.0 (ends e had.1).low;

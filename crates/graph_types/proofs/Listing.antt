@@ -1,22 +1,15 @@
 -- Lists of what passes a test, in order.
-use Rattle.std.proofs.Common.{◌≡◌, Bool, true, false, ◌&&◌, List, [], filter, refl, sym, ap, ◌∙◌}
+use Rattle.std.proofs.Common.{◌≡◌, Bool, false, ◌&&◌, List, [], filter, sym, ap, ◌∙◌}
 use Rattle.std.specs.Cmp.{IsTotalOrder, eq_by_cmp_equiv}
 use Rattle.std.specs.List.Sorted.{IsStrictlySortedBy}
-use Rattle.std.specs.Ordering.{is_eq}
 use Rattle.std.specs.declared.cmp.Ordering.{Ordering}
-use Rattle.std.specs.declared.cmp.Ordering.TheVariants.{Less, Equal, Greater}
 use Rattle.std.specs.FinMap as map
-use Rattle.std.proofs.lemmas.Bool.{false≢true}
 use Rattle.std.proofs.lemmas.List.Kept.{IsStrictlySortedBy-filter}
 use Rattle.std.proofs.lemmas.Map.Lookups.{btree_set_from_contains}
 use Rattle.std.proofs.lemmas.Map.Made.{is_member-filter}
 use Rattle.graph_types.specs.storage.Adjacency.{Lists}
-use Rattle.graph_types.proofs.Rows.{keys_rise}
-
-tied : (r : Ordering) → is_eq r ≡ true → r ≡ Equal
-tied Less e = absurd (false≢true e)
-tied Equal e = refl
-tied Greater e = absurd (false≢true e)
+use Rattle.shared_lemmas.proofs.FiniteMaps.{keys_rise}
+use Rattle.shared_lemmas.proofs.Orderings.{same_item}
 
 module _ {K : Type 0} {R : K → K → Ordering} where
   pub Lists-nothing : (p : K → Bool) → ((k : K) → false ≡ p k) → Lists R p []
@@ -39,6 +32,6 @@ module _ {K : Type 0} {R : K → K → Ordering} where
   Lists-filter total same m p = record {
     ascending = IsStrictlySortedBy-filter R p (map.keys m) (keys_rise m);
     members = λ k.
-        is_member-filter (eq_by_cmp_equiv total) p k (λ x e. ap p (same k x (tied (R k x) e))) (map.keys m)
+        is_member-filter (eq_by_cmp_equiv total) p k (λ x e. ap p (same_item same k x e)) (map.keys m)
         ∙ ap (λ b. b && p k) (sym (map.contains_key-keys m k));
   }

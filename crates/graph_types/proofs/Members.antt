@@ -1,22 +1,27 @@
 -- The orders of members and of pieces, and what it is to put one more into an ascending list of them.
-use Rattle.std.proofs.Common.{◌≡◌, ◌↔◌, ℕ, suc, ◌+◌, ◌≤◌, Bool, true, false, ◌||◌, IsTrue, List, [], ◌∷◌, length, map, Option, None, Some, MatchOption, refl, sym, ap, subst, ◌∙◌, arith, if◌then◌else◌}
-use Rattle.std.specs.List.{All, insert, list_any}
-use Rattle.std.specs.Ordering.{nat_cmp, is_eq, is_lt, ordering_then, ordering_reverse, match_ordering}
+use Rattle.std.proofs.Common.{◌≡◌, ◌↔◌, ℕ, suc, ◌+◌, ◌≤◌, true, false, ◌||◌, IsTrue, List, [], ◌∷◌, ◌++◌, length, map, Option, None, Some, MatchOption, refl, sym, ap, subst, ◌∙◌, arith, if◌then◌else◌}
+use Rattle.std.specs.BTreeSet.{insert_key}
+use Rattle.std.specs.List.{All, AllByRecursion, insert, list_any}
+use Rattle.std.specs.List.Sorted.{IsStrictlySortedBy}
+use Rattle.std.specs.Ordering.{nat_cmp, is_eq, is_lt, ordering_then, match_ordering}
 use Rattle.std.specs.Cmp.Lexicographic.{slice_cmp}
 use Rattle.std.specs.FinMap.{IsAntisymmetric, nat_cmp-IsAntisymmetric, slice_cmp-IsAntisymmetric}
 use Rattle.std.specs.Cmp.{tied_itself}
-use Rattle.std.specs.declared.cmp.Ordering.{Ordering}
 use Rattle.std.specs.declared.cmp.Ordering.TheVariants.{Less, Equal, Greater}
 use Rattle.std.proofs.lemmas.List.Elements.{All-head, All-tail}
+use Rattle.std.proofs.lemmas.Map.Keys.{sorted_head, sorted_tail}
 use Rattle.graph_types.specs.declared.ids.Mode.{Mode}
 use Rattle.graph_types.specs.declared.ids.Mode.TheVariants as mode
 use Rattle.graph_types.specs.declared.member.Member.{Member}
 use Rattle.graph_types.specs.declared.member.Member.TheVariants as member
 use Rattle.graph_types.specs.meaning.Graph.{pair_cmp}
-use Rattle.graph_types.specs.meaning.Piece.{PieceValue, IsPiece, IsOfMode, mode_of, mode_cmp, piece_cmp, member_cmp, member_lt, member_eq, is_ascending, with_member}
+use Rattle.graph_types.specs.meaning.Piece.{PieceValue, IsPiece, IsOfMode, mode_of, mode_cmp, piece_cmp, member_cmp, member_eq, with_member}
 use Rattle.graph_types.specs.storage.Slots.{slot_of, place_from}
-use Rattle.graph_types.specs.meaning.Orders.{then_tie, member_cmp_total, piece_cmp_total}
+use Rattle.graph_types.specs.meaning.Orders.{member_cmp_total, piece_cmp_total}
 use Rattle.graph_types.proofs.Graph.{pair_cmp-IsAntisymmetric}
+use Rattle.shared_lemmas.proofs.Ascending.{all-below}
+use Rattle.shared_lemmas.proofs.Orderings.{Greater-turned, same_item, then_tie}
+use Rattle.shared_lemmas.proofs.Sets.{absent_below, sorted-insert_key}
 
 member_cmp-slots : (x y : Member) → mode_of x ≡ mode_of y → member_cmp x y ≡ pair_cmp (slot_of x) (slot_of y)
 member_cmp-slots (member.Vertex v) (member.Vertex w) e = then_tie (nat_cmp v w)
@@ -48,14 +53,9 @@ piece_cmp-IsAntisymmetric p q tied =
       | Greater ↦ λ _ t. cc
     ] refl tied
 
-tie_is : (r : Ordering) → IsTrue (is_eq r) → r ≡ Equal
-tie_is Less h = absurd (cc)
-tie_is Equal h = refl
-tie_is Greater h = absurd (cc)
-
 pub is_eq-piece_cmp : (p q : PieceValue) → IsTrue (is_eq (piece_cmp p q)) ↔ (p ≡ q)
 is_eq-piece_cmp p q = (
-  λ tied. piece_cmp-IsAntisymmetric p q (tie_is _ tied),
+  λ tied. same_item piece_cmp-IsAntisymmetric p q tied,
   λ same. ap is_eq (subst (λ r. piece_cmp p r ≡ Equal) same (tied_itself piece_cmp_total p)),
 )
 
@@ -77,21 +77,6 @@ piece_cmp-slots p q p_is q_is =
       | Greater ↦ λ _. refl
     ] refl
 
-less : (x y : Member) → IsTrue (member_lt x y) → member_cmp x y ≡ Less
-less x y h = elim (member_cmp x y) as (λ r. IsTrue (is_lt r) → r ≡ Less) [ Less ↦ λ _. refl | Equal ↦ λ t. absurd (cc) | Greater ↦ λ t. absurd (cc) ] h
-
-both : (a b : Bool) → IsTrue (if a then b else false) → IsTrue a × IsTrue b
-both true b h = (refl, h)
-both false b h = absurd (cc)
-
--- a member below the first of an ascending list is not in it
-absent_below : (x y : Member) (members : List Member) → member_cmp x y ≡ Less → IsTrue (is_ascending (y ∷ members)) → list_any (member_eq x) (y ∷ members) ≡ false
-absent_below x y [] below ascending = ap (λ r. is_eq r || false) below
-absent_below x y (z ∷ members) below ascending =
-    let rest = both _ _ ascending in
-    ap (λ r. is_eq r || list_any (member_eq x) (z ∷ members)) below
-    ∙ absent_below x z members (member_cmp_total.trans x y z below (less y z rest.0)) rest.1
-
 -- x is not among the members, and this is its place
 pub record JoinsAt (members : List Member) (x : Member) (place : ℕ) : Type 0 where
   pub within : place ≤ length members
@@ -101,10 +86,6 @@ pub record JoinsAt (members : List Member) (x : Member) (place : ℕ) : Type 0 w
 -- what it says that the search for x, begun at n, found this
 abbrev pub Found : ℕ → List Member → Member → Option ℕ → Type 0
 Found n members x found = MatchOption found (list_any (member_eq x) members ≡ true) (λ place. (i : ℕ) × (place ≡ n + i) × JoinsAt members x i)
-
-tail_ascending : (y : Member) (members : List Member) → IsTrue (is_ascending (y ∷ members)) → IsTrue (is_ascending members)
-tail_ascending y [] h = refl
-tail_ascending y (z ∷ members) h = (both _ _ h).1
 
 found_later : (n : ℕ) (y : Member) (members : List Member) (x : Member) → member_cmp x y ≡ Greater → (found : Option ℕ) → Found (suc n) members x found → Found n (y ∷ members) x found
 found_later n y members x above None h = ap (λ r. is_eq r || list_any (member_eq x) members) above ∙ h
@@ -118,7 +99,7 @@ found_later n y members x above (Some place) (i, at, joins) = (
   },
 )
 
-pub place_from-found : (n : ℕ) (members : List Member) (x : Member) → IsTrue (is_ascending members) → All (IsOfMode (mode_of x)) members → Found n members x (place_from n (map slot_of members) (slot_of x))
+pub place_from-found : (n : ℕ) (members : List Member) (x : Member) → IsStrictlySortedBy member_cmp members → All (IsOfMode (mode_of x)) members → Found n members x (place_from n (map slot_of members) (slot_of x))
 place_from-found n [] x ascending same = (0, omega arith, record { within = omega arith; absent = refl; joined = refl })
 place_from-found n (y ∷ members) x ascending same =
     let rest = place_from (suc n) (map slot_of members) (slot_of x) in
@@ -129,43 +110,31 @@ place_from-found n (y ∷ members) x ascending same =
         omega arith,
         record {
           within = omega arith;
-          absent = absent_below x y members below ascending;
+          absent = absent_below member_cmp x (y ∷ members) (below, all-below member_cmp_total x y members below (sorted_head member_cmp y members ascending));
           joined = ap (λ r. if is_lt r then x ∷ y ∷ members else y ∷ with_member members x) below;
         },
       )
       | Equal ↦ λ tied. ap (λ r. is_eq r || list_any (member_eq x) members) tied
-      | Greater ↦ λ above. found_later n y members x above rest (place_from-found (suc n) members x (tail_ascending y members ascending) (All-tail (IsOfMode (mode_of x)) y members same))
+      | Greater ↦ λ above. found_later n y members x above rest (place_from-found (suc n) members x (sorted_tail member_cmp y members ascending) (All-tail (IsOfMode (mode_of x)) y members same))
     ] refl)
 
--- y is below the first of the members
-first_above : Member → List Member → Bool
-first_above y [] = true
-first_above y (z ∷ members) = member_lt y z
+-- to put a member that is not there before the first above it is to insert it as a key
+with_member-is : (members : List Member) (x : Member) → list_any (member_eq x) members ≡ false → with_member members x ≡ insert_key member_cmp members x
+with_member-is [] x absent = refl
+with_member-is (y ∷ members) x absent =
+    elim (member_cmp x y) as (λ r. (is_eq r || list_any (member_eq x) members) ≡ false → (if is_lt r then x ∷ y ∷ members else y ∷ with_member members x) ≡ match_ordering r (x ∷ y ∷ members) (y ∷ members) (y ∷ insert_key member_cmp members x)) [
+      | Less ↦ λ _. refl
+      | Equal ↦ λ e. absurd (cc)
+      | Greater ↦ λ rest. ap (λ more. y ∷ more) (with_member-is members x rest)
+    ] absent
 
-first_above-ascending : (y : Member) (members : List Member) → IsTrue (is_ascending (y ∷ members)) → IsTrue (first_above y members)
-unfolding first_above
-first_above-ascending y [] h = refl
-first_above-ascending y (z ∷ members) h = (both _ _ h).0
+pub sorted-with_member : (members : List Member) (x : Member) → IsStrictlySortedBy member_cmp members → list_any (member_eq x) members ≡ false → IsStrictlySortedBy member_cmp (with_member members x)
+sorted-with_member members x ascending absent =
+    subst (IsStrictlySortedBy member_cmp) (sym (with_member-is members x absent)) (sorted-insert_key member_cmp_total member_cmp-IsAntisymmetric x members ascending)
 
-ascending-cons : (y : Member) (members : List Member) → IsTrue (first_above y members) → IsTrue (is_ascending members) → IsTrue (is_ascending (y ∷ members))
-unfolding first_above
-ascending-cons y [] above ascending = refl
-ascending-cons y (z ∷ members) above ascending = ap (λ b. if b then is_ascending (z ∷ members) else false) above ∙ ascending
-
-first_above-with_member : (y : Member) (members : List Member) (x : Member) → IsTrue (first_above y members) → IsTrue (member_lt y x) → IsTrue (first_above y (with_member members x))
-unfolding first_above
-first_above-with_member y [] x first new = new
-first_above-with_member y (z ∷ members) x first new =
-    elim (member_lt x z) as (λ b. IsTrue (first_above y (if b then x ∷ z ∷ members else z ∷ with_member members x))) [ true ↦ new | false ↦ first ]
-
-pub is_ascending-with_member : (members : List Member) (x : Member) → IsTrue (is_ascending members) → list_any (member_eq x) members ≡ false → IsTrue (is_ascending (with_member members x))
-is_ascending-with_member [] x ascending absent = refl
-is_ascending-with_member (y ∷ members) x ascending absent =
-    elim (member_cmp x y) as (λ r. member_cmp x y ≡ r → (is_eq r || list_any (member_eq x) members) ≡ false → IsTrue (is_ascending (if is_lt r then x ∷ y ∷ members else y ∷ with_member members x))) [
-      | Less ↦ λ below _. ascending-cons x (y ∷ members) (unfold first_above in ap is_lt below) ascending
-      | Equal ↦ λ _ e. absurd (cc)
-      | Greater ↦ λ above rest.
-          let new : IsTrue (member_lt y x) = ap is_lt (member_cmp_total.antisymm y x ∙ ap ordering_reverse above) in
-          ascending-cons y _ (first_above-with_member y members x (first_above-ascending y members ascending) new)
-          (is_ascending-with_member members x (tail_ascending y members ascending) rest)
-    ] refl absent
+-- a member above all is put after them
+pub with_member-end : (members : List Member) (m : Member) → AllByRecursion (λ x. member_cmp x m ≡ Less) members → with_member members m ≡ members ++ m ∷ []
+with_member-end [] m below = refl
+with_member-end (x ∷ members) m below =
+    ap (λ r. if is_lt r then m ∷ x ∷ members else x ∷ with_member members m) (Greater-turned member_cmp_total x m below.0)
+    ∙ ap (λ rest. x ∷ rest) (with_member-end members m below.1)

@@ -12,7 +12,7 @@ use Rattle.graph_types.specs.declared.member.Member.TheVariants as member
 use Rattle.graph_types.specs.meaning.Piece.{PieceValue, IsPiece, CanJoin, HasLowerFirst, IsOfMode, mode_of, member_eq, most_members, with_joined, with_member}
 use Rattle.graph_types.specs.storage.Slots.{slot_of, slots_of, member_in, piece_in, place_from, IsPacked}
 use Rattle.graph_types.proofs.Lists.{All-insert, map-insert}
-use Rattle.graph_types.proofs.Members.{Found, JoinsAt, place_from-found, is_ascending-with_member}
+use Rattle.graph_types.proofs.Members.{Found, JoinsAt, place_from-found, sorted-with_member}
 
 member_in-slot_of : (kind : Mode) (m : Member) → mode_of m ≡ kind → member_in kind (slot_of m) ≡ m
 member_in-slot_of mode.Vertex (member.Vertex v) e = refl
@@ -92,7 +92,7 @@ joins_at p m place sound same lower room at =
       can = record { same_mode = same; absent = ap not at.absent; room = omega (arith, sound.room, room) };
       sound = record {
         room = omega (arith, sound.room, room, count);
-        ascending = is_ascending-with_member p.members m sound.ascending at.absent;
+        ascending = sorted-with_member p.members m sound.ascending at.absent;
         of_mode = subst (All (IsOfMode p.mode)) (sym at.joined) (All-insert (IsOfMode p.mode) p.members place m sound.of_mode same);
         lower_first = subst (All HasLowerFirst) (sym at.joined) (All-insert HasLowerFirst p.members place m sound.lower_first lower);
       };

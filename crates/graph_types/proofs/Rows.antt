@@ -4,54 +4,30 @@ use Rattle.std.specs.List.{AllByRecursion, flat_map}
 use Rattle.std.specs.List.Sorted.{IsStrictlySortedBy}
 use Rattle.std.specs.Map.{keys_of}
 use Rattle.std.specs.Option.{option_or, option_map, option_and_then}
-use Rattle.std.specs.Ordering.{nat_cmp, eq_by_cmp, is_eq, is_lt, ordering_then}
-use Rattle.std.specs.Cmp.{nat_cmp_total}
+use Rattle.std.specs.Ordering.{nat_cmp, eq_by_cmp, is_eq}
+use Rattle.std.specs.Cmp.{nat_cmp_total, tied_then}
 use Rattle.std.specs.declared.cmp.Ordering.{Ordering}
-use Rattle.std.specs.declared.cmp.Ordering.TheVariants.{Less, Equal, Greater}
+use Rattle.std.specs.declared.cmp.Ordering.TheVariants.{Less}
 use Rattle.std.specs.FinMap as map
-use Rattle.std.specs.FinMap.Entries.{below_all, is_sorted}
 use Rattle.std.proofs.lemmas.Bool.Decides.{nat_tests}
 use Rattle.std.proofs.lemmas.Bool.{eqb-true}
 use Rattle.std.proofs.lemmas.Map.Keys.{sorted_head, sorted_tail}
 use Rattle.std.proofs.lemmas.Map.Made.{keys_of-map_values}
-use lib.Dec.{T}
 use Rattle.graph_types.specs.declared.adjacency.Vertex.{Vertex}
 use Rattle.graph_types.specs.meaning.Graph.{pair_cmp, empty_graph}
 use Rattle.graph_types.specs.storage.Adjacency.{Rows, edges_from, graph_of_rows}
 use Rattle.graph_types.specs.meaning.Orders.{pair_cmp_total}
 use Rattle.graph_types.proofs.Views.{entries-seen, keys-seen}
-
-is_eq-then : (r s : Ordering) → is_eq (ordering_then r s) ≡ (is_eq r && is_eq s)
-is_eq-then Less s = refl
-is_eq-then Equal s = refl
-is_eq-then Greater s = refl
+use Rattle.shared_lemmas.proofs.FiniteMaps.{keys_rise}
 
 -- two numbers, and two pairs of numbers, tie where they are equal
 pub nat-test : (x y : ℕ) → eq_by_cmp nat_cmp x y ≡ eqb x y
 nat-test x y = grind (arith, nat_tests)
 
 pub pair-test : (e f : ℕ × ℕ) → eq_by_cmp pair_cmp e f ≡ (eqb e.0 f.0 && eqb e.1 f.1)
-pair-test e f = is_eq-then _ _ ∙ (λ i. nat-test e.0 f.0 i && nat-test e.1 f.1 i)
+pair-test e f = sym (tied_then _ _) ∙ (λ i. nat-test e.0 f.0 i && nat-test e.1 f.1 i)
 
 module _ {K X : Type 0} (R : K → K → Ordering) where
-  all_above : (x : K) (es : List (K × X)) → T (below_all R x es) → AllByRecursion (λ y. R x y ≡ Less) (keys_of es)
-  all_above x [] h = tt
-  all_above x (e ∷ es) h =
-      elim (R x e.0) as (λ r. R x e.0 ≡ r → T (is_lt r && below_all R x es) → AllByRecursion (λ y. R x y ≡ Less) (e.0 ∷ keys_of es)) [
-        | Less ↦ λ below rest. (below, all_above x es rest)
-        | Equal ↦ λ _ rest. absurd rest
-        | Greater ↦ λ _ rest. absurd rest
-      ] refl h
-
-  rises : (es : List (K × X)) → T (is_sorted R es) → IsStrictlySortedBy R (keys_of es)
-  unfolding IsStrictlySortedBy
-  rises [] h = tt
-  rises (e ∷ es) h =
-      elim (below_all R e.0 es) as (λ b. below_all R e.0 es ≡ b → T (b && is_sorted R es) → IsStrictlySortedBy R (e.0 ∷ keys_of es)) [
-        | true ↦ λ below rest. (all_above e.0 es (subst T (sym below) tt), rises es rest)
-        | false ↦ λ _ rest. absurd rest
-      ] refl h
-
   find-append : (q : K) (es fs : List (K × X)) → map.find R q (es ++ fs) ≡ option_or (map.find R q es) (map.find R q fs)
   find-append q [] fs = refl
   find-append q (e ∷ es) fs =
@@ -60,10 +36,6 @@ module _ {K X : Type 0} (R : K → K → Ordering) where
   pub find-below : (q : K) (es : List (K × X)) → AllByRecursion (λ y. R q y ≡ Less) (keys_of es) → map.find R q es ≡ None
   find-below q [] h = refl
   find-below q (e ∷ es) h = ap (λ r. cond (is_eq r) (Some e.1) (map.find R q es)) h.0 ∙ find-below q es h.1
-
--- the keys of a finite map rise
-pub keys_rise : {K X : Type 0} {R : K → K → Ordering} (m : map.FinMap R X) → IsStrictlySortedBy R (map.keys m)
-keys_rise {R = R} m = rises R (map.entries m) (map.entries_sorted m)
 
 either : {A : Type 0} (b : Bool) (x : A) → x ≡ cond b x x
 either true x = refl

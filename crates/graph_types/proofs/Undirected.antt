@@ -7,11 +7,11 @@ use Rattle.std.specs.Cmp.{nat_cmp_total}
 use Rattle.std.specs.FinMap as map
 use Rattle.std.proofs.lemmas.Bool.{false≢true, eqb-true, ltb-true, lt-ltb, not-true, or_parts}
 use Rattle.std.proofs.lemmas.Bool.Decides.{nat_tests}
-use Rattle.graph_types.specs.meaning.Graph.{Graph, HasEnds, empty_graph, edge_between, has_vertex, has_edge, is_joined, ends_at, neighbours, pair_cmp, with_vertex, with_edge, without_vertex, without_edge}
+use Rattle.graph_types.specs.meaning.Graph.{Graph, HasEnds, empty_graph, edge_between, has_vertex, has_edge, is_joined, ends_at, label_between, neighbours, pair_cmp, with_vertex, with_edge, without_vertex, without_edge}
 use Rattle.graph_types.specs.storage.Adjacency.{IsUndirected, Lists, goes_up, undirected_graph, without_row, without_edges_to}
 use Rattle.graph_types.specs.meaning.Simple.{IsSimple}
 use Rattle.graph_types.specs.meaning.Orders.{pair_cmp_total}
-use Rattle.graph_types.proofs.Graph.{has_vertex-kept, has_vertex-without_vertex, joined-at, pair_cmp-IsAntisymmetric}
+use Rattle.graph_types.proofs.Graph.{has_vertex-kept, has_vertex-without_vertex, label-at, pair_cmp-IsAntisymmetric}
 use Rattle.graph_types.proofs.Listing.{Lists-keys, Lists-alike, Lists-filter, same_list}
 use Rattle.graph_types.proofs.Views.{none_from}
 use Rattle.graph_types.proofs.RowChanges.{same_graph, edge-kept, edge-with_edge, edge-without_edge, without_no_edge}
@@ -243,24 +243,31 @@ module _ (g : Graph) (v : ℕ) (near : map.FinMap nat_cmp ℕ) (two : IsUndirect
 pub HasEnds-undirected : (g : Graph) → IsUndirected g → (x y : ℕ) → IsTrue (has_edge g (x, y)) → HasEnds (undirected_graph g) (x, y)
 HasEnds-undirected g two x y has = record { low = two.ends x y has; high = two.ends y x (sym (ap is_some (two.symmetric x y)) ∙ has) }
 
+some_between : {A : Type 0} (b : Bool) (o : Option A) → is_some (cond b None o) ≡ (not b && is_some o)
+some_between true o = refl
+some_between false o = refl
+
 -- the vertices to which the edges from v lead are its neighbours
 module _ (g : Graph) (two : IsUndirected g) (v : ℕ) where
-  joined : (w : ℕ) → has_edge g (v, w) ≡ is_joined (undirected_graph g) v w
-  joined w =
-      elim (nat_lt v w) as (λ b. nat_lt v w ≡ b → has_edge g (v, w) ≡ is_joined (undirected_graph g) v w) [
+  pub labels-between : (w : ℕ) → map.get g.edges (v, w) ≡ label_between (undirected_graph g) v w
+  labels-between w =
+      elim (nat_lt v w) as (λ b. nat_lt v w ≡ b → map.get g.edges (v, w) ≡ label_between (undirected_graph g) v w) [
         | true ↦ λ e.
             let below : v < w = ltb-true v w e in
-            ap is_some (sym (edge-below g v w below)) ∙ joined-at (undirected_graph g) v w (v, w) (λ same. omega arith) (ends_in_order v w below)
-        | false ↦ λ e. elim (eqb v w) as (λ b. eqb v w ≡ b → has_edge g (v, w) ≡ is_joined (undirected_graph g) v w) [
+            sym (edge-below g v w below) ∙ label-at (undirected_graph g) v w (v, w) (λ same. omega arith) (ends_in_order v w below)
+        | false ↦ λ e. elim (eqb v w) as (λ b. eqb v w ≡ b → map.get g.edges (v, w) ≡ label_between (undirected_graph g) v w) [
           | true ↦ λ same.
-              ap (λ u. has_edge g (v, u)) (sym (eqb-true v w same))
-              ∙ ap is_some (two.no_loop v)
-              ∙ ap (λ b. not b && has_edge (undirected_graph g) (edge_between v w)) (sym same)
+              ap (λ u. map.get g.edges (v, u)) (sym (eqb-true v w same))
+              ∙ two.no_loop v
+              ∙ ap (λ b. cond b None (map.get (undirected_graph g).edges (edge_between v w))) (sym same)
           | false ↦ λ apart.
               let below : w < v = grind (arith, nat_tests) in
-              ap is_some (two.symmetric v w ∙ sym (edge-below g w v below)) ∙ joined-at (undirected_graph g) v w (w, v) (λ same. omega arith) (ends_turned v w below)
+              two.symmetric v w ∙ sym (edge-below g w v below) ∙ label-at (undirected_graph g) v w (w, v) (λ same. omega arith) (ends_turned v w below)
         ] refl
       ] refl
+
+  joined : (w : ℕ) → has_edge g (v, w) ≡ is_joined (undirected_graph g) v w
+  joined w = ap is_some (labels-between w) ∙ some_between (eqb v w) (map.get (undirected_graph g).edges (edge_between v w))
 
   pub Lists-neighbours : (ws : List ℕ) → Lists nat_cmp (λ w. has_edge g (v, w)) ws → ws ≡ neighbours (undirected_graph g) v
   Lists-neighbours ws lists =

@@ -3,3 +3,4 @@ pub mod Adjacency
 pub mod Few
 pub mod Kept
 pub mod Slots
+pub mod Left

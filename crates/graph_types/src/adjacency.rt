@@ -1,11 +1,11 @@
-ghost use Rattle.std.specs.Prelude.{◌≡◌, ℕ, false, IsTrue, OnOk, OnErr, IfOk, filter};
+ghost use Rattle.std.specs.Prelude.{◌≡◌, ◌++◌, ℕ, false, IsTrue, IfSome, OnOk, OnErr, IfOk, is_some, map as mapped, filter};
 ghost use Rattle.std.specs.FinMap as map;
 ghost use Rattle.std.specs.Ordering.{nat_cmp};
 ghost use Rattle.graph_types.specs.meaning.Graph.{empty_graph, has_vertex, has_edge, with_vertex, with_edge, without_edge};
 ghost use Rattle.graph_types.specs.storage.Adjacency.{Lists, without_row, without_edges_to, goes_up};
 
 use crate::neighbours::Neighbours;
-use crate::{EdgeList, LabelId, NoMemory, VertexId, VertexList};
+use crate::{Edge, EdgeList, LabelId, NoMemory, VertexId, VertexList};
 use std::alloc::Global;
 use std::collections::BTreeMap;
 use std::marker::Model;
@@ -14,7 +14,7 @@ use std::marker::Model;
 #[derive(Debug, Drop)]
 pub(crate) struct Vertex {
     label: LabelId,
-    near: Neighbours,
+    near: Neighbours<LabelId>,
 }
 
 /// A directed labelled graph, as one ordered map of its vertices, each with the edges from it.
@@ -62,7 +62,7 @@ impl Adjacency {
         ensures { result ≡ map.get self.now.edges (from, to) }
     {
         match self.rows.get(&from) {
-            Some(vertex) => vertex.near.label(to),
+            Some(vertex) => vertex.near.get(to).copied(),
             None => None,
         }
     }
@@ -105,7 +105,7 @@ impl Adjacency {
     }
 
     /// Takes a vertex out with the edges from it, if it is there, and answers where these led.
-    pub fn take_vertex(&mut self, v: VertexId) -> Neighbours
+    pub fn take_vertex(&mut self, v: VertexId) -> Neighbours<LabelId>
         ensures rest { self.new ≡ without_row self.old v }
         ensures taken { (w : ℕ) → map.get result w ≡ map.get self.old.edges (v, w) }
     {
@@ -116,10 +116,10 @@ impl Adjacency {
     }
 
     /// Takes out the edges to a vertex from each of the sources.
-    pub fn take_edges_to(&mut self, mut sources: Neighbours, to: VertexId)
+    pub fn take_edges_to(&mut self, mut sources: Neighbours<LabelId>, to: VertexId)
         ensures { self.new ≡ without_edges_to self.old sources to }
     {
-        while let Some(from) = sources.pop() {
+        while let Some((from, _)) = sources.pop() {
             self.take_edge(from, to);
         }
     }
@@ -141,9 +141,20 @@ impl Adjacency {
     {
         let mut edges = EdgeList::new(alloc);
         for (v, vertex) in &self.rows {
-            vertex.near.push_edges_up(alloc, *v, &mut edges)?;
+            push_edges_up(*v, &vertex.near, &mut edges)?;
         }
         Ok(edges)
+    }
+
+    /// Where the edges from a vertex lead, each with its label, or `None` where the vertex isn't there.
+    pub fn neighbours(&self, v: VertexId) -> Option<&Neighbours<LabelId>>
+        ensures there { is_some result ≡ has_vertex self.now v }
+        ensures labels { IfSome result (λ near. (w : ℕ) → map.get near.now w ≡ map.get self.now.edges (v, w)) }
+    {
+        match self.rows.get(&v) {
+            Some(vertex) => Some(&vertex.near),
+            None => None,
+        }
     }
 
     /// Where the edges from a vertex lead, ascending, in a new list.
@@ -151,8 +162,37 @@ impl Adjacency {
         ensures { IfOk result (λ ws. Lists nat_cmp (λ w. has_edge self.now (v, w)) ws) }
     {
         match self.rows.get(&v) {
-            Some(vertex) => vertex.near.list(alloc),
+            Some(vertex) => list(alloc, &vertex.near),
             None => Ok(VertexList::new(alloc)),
         }
     }
+}
+
+/// Puts the edges from a vertex to its higher neighbours at the end of a list.
+fn push_edges_up(
+    from: VertexId,
+    near: &Neighbours<LabelId>,
+    edges: &mut EdgeList,
+) -> Result<(), NoMemory>
+    ensures { OnOk result (edges.new ≡ edges.old ++ filter goes_up (mapped (λ to. (from, to)) (map.keys near.now))) }
+{
+    for (to, _) in near {
+        if from < to {
+            if let Some(edge) = Edge::of(from, to) {
+                edges.push(edge)?;
+            }
+        }
+    }
+    Ok(())
+}
+
+/// The neighbours, ascending, in a new list.
+fn list(alloc: Global, near: &Neighbours<LabelId>) -> Result<VertexList, NoMemory>
+    ensures { IfOk result (λ vs. vs ≡ map.keys near.now) }
+{
+    let mut vertices = VertexList::new(alloc);
+    for (to, _) in near {
+        vertices.push(to)?;
+    }
+    Ok(vertices)
 }

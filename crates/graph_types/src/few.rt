@@ -1,23 +1,18 @@
-//! A short list of neighbours, ascending, each with the label of the edge to it. Each call takes time
-//! linear in the list.
-ghost use Rattle.std.specs.Prelude.{◌≡◌, None, IfOk, OnOk, OnErr, length, nat_lt, take_while};
+//! A short list of neighbours, ascending, each with a value. Each call takes time linear in the list.
+ghost use Rattle.std.specs.Prelude.{◌≡◌, ◌<◌, None, OnOk, OnErr, length, nat_lt, slice_set, take_while};
 ghost use Rattle.std.specs.BTreeMap.{is_at};
 ghost use Rattle.std.specs.FinMap.Entries.{find, put};
-ghost use Rattle.std.specs.Map.{keys_of, remove_entry};
+ghost use Rattle.std.specs.Map.{remove_entry};
+ghost use Rattle.std.specs.Option.{option_copied};
 ghost use Rattle.std.specs.Ordering.{nat_cmp};
 ghost use Rattle.graph_types.specs.storage.Few.{IsAscending, IsSought};
 
-use crate::{LabelId, NoMemory, VertexId, VertexList};
-use smallvec::SmallVec;
-use std::alloc::Global;
+use crate::{NoMemory, VertexId};
 
-/// So many neighbours lie in the vertex itself.
-pub(crate) const INLINE: usize = 4;
-
-pub(crate) type Short = SmallVec<(VertexId, LabelId), INLINE>;
+pub(crate) type Short<V> = Vec<(VertexId, V)>;
 
 /// The place of a neighbour, or where it would go.
-fn seek(few: &[(VertexId, LabelId)], to: VertexId) -> Result<usize, usize>
+fn seek<V>(few: &[(VertexId, V)], to: VertexId) -> Result<usize, usize>
     ensures { IsSought few.now to result }
 {
     let at = place(few, to);
@@ -27,54 +22,53 @@ fn seek(few: &[(VertexId, LabelId)], to: VertexId) -> Result<usize, usize>
     }
 }
 
-fn place(few: &[(VertexId, LabelId)], to: VertexId) -> usize
+fn place<V>(few: &[(VertexId, V)], to: VertexId) -> usize
     ensures { result ≡ length (take_while (λ n. nat_lt n.0 to) few.now) }
 {
     few.iter().take_while(|(v, _)| *v < to).count()
 }
 
-/// The label of the edge to a neighbour.
-pub(crate) fn label(few: &[(VertexId, LabelId)], to: VertexId) -> Option<LabelId>
+/// The value of a neighbour.
+pub(crate) fn get<V>(few: &[(VertexId, V)], to: VertexId) -> Option<&V>
     requires { IsAscending few.now }
-    ensures { result ≡ find nat_cmp to few.now }
+    ensures { option_copied result ≡ find nat_cmp to few.now }
 {
     let Ok(at) = seek(few, to) else {
         return None;
     };
-    Some(few[at].1)
+    Some(&few[at].1)
 }
 
-/// Puts a neighbour in, or gives it another label.
-pub(crate) fn put(few: &mut Short, to: VertexId, label: LabelId) -> Result<(), NoMemory>
+/// Puts a neighbour in, or gives it another value.
+pub(crate) fn put<V: Copy>(few: &mut Short<V>, to: VertexId, value: V) -> Result<(), NoMemory>
     requires { IsAscending few.old.items }
-    ensures ok { OnOk result (few.new.items ≡ put nat_cmp to label few.old.items) }
+    ensures ok { OnOk result (few.new.items ≡ put nat_cmp to value few.old.items) }
     ensures err { OnErr result (few.new.items ≡ few.old.items) }
     ensures was_new { OnErr result (find nat_cmp to few.old.items ≡ None) }
 {
-    match seek(few.as_slice(), to) {
-        Ok(at) => few[at] = (to, label),
-        Err(at) => few.insert(at, (to, label))?,
+    match seek(few, to) {
+        Ok(at) => write(few.as_mut_slice(), at, (to, value)),
+        Err(at) => few.insert(at, (to, value))?,
     }
     Ok(())
 }
 
-/// Takes a neighbour out, if it is there.
-pub(crate) fn take(few: &mut Short, to: VertexId)
-    requires { IsAscending few.old.items }
-    ensures { few.new.items ≡ remove_entry (is_at (nat_cmp to)) few.old.items }
+fn write<V: Copy>(few: &mut [(VertexId, V)], at: usize, entry: (VertexId, V))
+    requires { at < length few.old }
+    ensures { few.new ≡ slice_set few.old at entry }
 {
-    if let Ok(at) = seek(few.as_slice(), to) {
-        few.remove(at);
-    }
+    few[at] = entry;
 }
 
-/// The neighbours, in order, in a new list.
-pub(crate) fn list(alloc: Global, few: &[(VertexId, LabelId)]) -> Result<VertexList, NoMemory>
-    ensures { IfOk result (λ near. near ≡ keys_of few.now) }
+/// Takes a neighbour out, if it is there, and gives its value back.
+pub(crate) fn take<V>(few: &mut Short<V>, to: VertexId) -> Option<V>
+    requires { IsAscending few.old.items }
+    ensures taken { result ≡ find nat_cmp to few.old.items }
+    ensures rest { few.new.items ≡ remove_entry (is_at (nat_cmp to)) few.old.items }
 {
-    let mut near = VertexList::new(alloc);
-    for (v, _) in few {
-        near.push(*v)?;
-    }
-    Ok(near)
+    let Ok(at) = seek(few, to) else {
+        return None;
+    };
+    let (_, value) = few.remove(at);
+    Some(value)
 }

@@ -14,7 +14,7 @@ pub enum Point {
 
 /// Is passed at each `Point`, and may hold the thread there for as long as it likes. A test uses one
 /// to bring an order about; nothing that is mined depends on it.
-pub trait Gate {
+pub trait Gate: Sync {
     fn pass<R: Wait>(&self, rt: &R, point: Point);
 }
 

@@ -4,6 +4,7 @@
 
 mod adjacency;
 mod edge;
+mod entries;
 mod few;
 mod gate;
 mod ids;
@@ -16,10 +17,12 @@ mod snapshot;
 mod update;
 
 pub use edge::Edge;
+pub use entries::Entries;
 pub use gate::{FreeGate, Gate, Point};
 pub use ids::{LabelId, Mode, Stamp, VertexId};
 pub use list::List;
 pub use member::Member;
+pub use neighbours::Neighbours;
 pub use no_memory::NoMemory;
 pub use piece::Piece;
 pub use snapshot::Snapshot;

@@ -1,10 +1,10 @@
-ghost use Rattle.std.specs.Prelude.{◌≡◌, IsSome, IfOk, OnOk, OnErr};
+ghost use Rattle.std.specs.Prelude.{◌≡◌, ℕ, IsSome, IfSome, IfOk, OnOk, OnErr, is_some};
 ghost use Rattle.std.specs.FinMap as map;
-ghost use Rattle.graph_types.specs.meaning.Graph.{empty_graph, with_vertex, with_edge, without_vertex, without_edge, HasEnds, neighbours};
+ghost use Rattle.graph_types.specs.meaning.Graph.{empty_graph, with_vertex, with_edge, without_vertex, without_edge, has_vertex, HasEnds, label_between, neighbours};
 ghost use Rattle.graph_types.specs.meaning.Simple.{IsSimple};
 
 use crate::adjacency::Adjacency;
-use crate::{Edge, EdgeList, LabelId, NoMemory, VertexId, VertexList};
+use crate::{Edge, EdgeList, LabelId, Neighbours, NoMemory, VertexId, VertexList};
 use std::alloc::Global;
 use std::marker::Model;
 
@@ -121,116 +121,21 @@ impl Snapshot {
         self.arcs.edges_up(alloc)
     }
 
+    /// The vertices that an edge joins with `v`, each with the label of that edge, or `None` where `v`
+    /// isn't there. Takes time logarithmic in the number of vertices, and no memory.
+    pub fn neighbours(&self, v: VertexId) -> Option<&Neighbours<LabelId>>
+        ensures there { is_some result ≡ has_vertex self.now v }
+        ensures labels { IfSome result (λ near. (w : ℕ) → map.get near.now w ≡ label_between self.now v w) }
+        ensures vertices { IfSome result (λ near. map.keys near.now ≡ neighbours self.now v) }
+    {
+        self.arcs.neighbours(v)
+    }
+
     /// The vertices that an edge joins with `v`, ascending, in a new list. Takes time logarithmic in the
     /// number of vertices and linear in the length of the list.
     pub fn near(&self, alloc: Global, v: VertexId) -> Result<VertexList, NoMemory>
         ensures { IfOk result (λ near. near ≡ neighbours self.now v) }
     {
         self.arcs.near(alloc, v)
-    }
-}
-
-#[cfg(test)]
-mod tests {
-    use super::*;
-    use std::test::Fail;
-
-    #[test]
-    fn holds_a_graph(rt: HostRuntime) -> Result<(), Fail> {
-        let edge = Edge::of(VertexId(2), VertexId(1)).ok_or("a loop")?;
-        let mut snapshot = Snapshot::new(rt.alloc());
-        snapshot.put_vertex(VertexId(2), LabelId(0))?;
-        snapshot.put_vertex(VertexId(1), LabelId(1))?;
-        snapshot.put_edge(edge, LabelId(0))?;
-        assert_eq!(rt; snapshot.label(VertexId(2)), Some(LabelId(0)));
-        assert_eq!(rt; snapshot.label(VertexId(3)), None);
-        assert_eq!(rt; snapshot.edge_label(edge), Some(LabelId(0)));
-        let vertices = snapshot.vertices(rt.alloc())?;
-        assert_eq!(rt; vertices.as_slice(), [VertexId(1), VertexId(2)].as_slice());
-        let edges = snapshot.edges(rt.alloc())?;
-        assert_eq!(rt; edges.as_slice(), [edge].as_slice());
-        let near = snapshot.near(rt.alloc(), VertexId(1))?;
-        assert_eq!(rt; near.as_slice(), [VertexId(2)].as_slice());
-        Ok(())
-    }
-
-    fn join(graph: &mut Snapshot, x: u32, y: u32, label: u32) -> Result<Edge, Fail> {
-        let edge = Edge::of(VertexId(x), VertexId(y)).ok_or("a loop")?;
-        graph.put_vertex(VertexId(x), LabelId(0))?;
-        graph.put_vertex(VertexId(y), LabelId(0))?;
-        graph.put_edge(edge, LabelId(label))?;
-        Ok(edge)
-    }
-
-    #[test]
-    fn takes_out_of_a_path(rt: HostRuntime) -> Result<(), Fail> {
-        let mut path = Snapshot::new(rt.alloc());
-        let low = join(&mut path, 1, 2, 0)?;
-        let high = join(&mut path, 2, 3, 0)?;
-        let near = path.near(rt.alloc(), VertexId(2))?;
-        assert_eq!(rt; near.as_slice(), [VertexId(1), VertexId(3)].as_slice());
-        path.take_edge(low);
-        let edges = path.edges(rt.alloc())?;
-        assert_eq!(rt; edges.as_slice(), [high].as_slice());
-        path.take_vertex(VertexId(2));
-        let vertices = path.vertices(rt.alloc())?;
-        assert_eq!(rt; vertices.as_slice(), [VertexId(1), VertexId(3)].as_slice());
-        assert!(rt; path.edges(rt.alloc())?.is_empty());
-        Ok(())
-    }
-
-    /// The label of the edge between the hub and `v` in the end: those that 3 divides were taken out,
-    /// and the next ones have a new label.
-    fn label_in_the_end(v: u32) -> Option<LabelId> {
-        match v % 3 {
-            0 => None,
-            1 => Some(LabelId(9)),
-            _ => Some(LabelId(v % 7)),
-        }
-    }
-
-    fn hub(alloc: Global) -> Result<Snapshot, Fail> {
-        let mut graph = Snapshot::new(alloc);
-        // 37 and 151 have no common factor, so each number below 151 comes once.
-        for i in 0..151 {
-            let v = i * 37 % 151;
-            join(&mut graph, 75_000, v, v % 7)?;
-        }
-        for i in 0..151 {
-            let v = i * 52 % 151;
-            if v % 3 == 1 {
-                join(&mut graph, v, 75_000, 9)?;
-            } else if v % 3 == 0 {
-                let edge = Edge::of(VertexId(v), VertexId(75_000)).ok_or("a loop")?;
-                graph.take_edge(edge);
-            }
-        }
-        Ok(graph)
-    }
-
-    #[test]
-    fn holds_a_hub(rt: HostRuntime) -> Result<(), Fail> {
-        let mut graph = hub(rt.alloc())?;
-        let mut near = VertexList::new(rt.alloc());
-        for v in 0..151 {
-            let edge = Edge::of(VertexId(75_000), VertexId(v)).ok_or("a loop")?;
-            let label = label_in_the_end(v);
-            assert_eq!(rt; graph.edge_label(edge), label, "at {v}");
-            let others = graph.near(rt.alloc(), VertexId(v))?;
-            if label.is_some() {
-                near.push(VertexId(v))?;
-                assert_eq!(rt; others.as_slice(), [VertexId(75_000)].as_slice(), "at {v}");
-            } else {
-                assert!(rt; others.is_empty(), "at {v}");
-            }
-        }
-        let found = graph.near(rt.alloc(), VertexId(75_000))?;
-        assert_eq!(rt; found.as_slice(), near.as_slice());
-        assert_eq!(rt; graph.edges(rt.alloc())?.len(), 100);
-        graph.take_vertex(VertexId(75_000));
-        assert!(rt; graph.edges(rt.alloc())?.is_empty());
-        assert!(rt; graph.near(rt.alloc(), VertexId(1))?.is_empty());
-        assert_eq!(rt; graph.vertices(rt.alloc())?.len(), 151);
-        Ok(())
     }
 }

@@ -180,7 +180,7 @@ fn work(rt: &HostRuntime, words: &Words) -> io::Result<Done> {
 
 fn main(rt: HostRuntime) -> io::Result<()> {
     let words: Vec<String> = env::args(&rt)?.skip(1).collect(rt.alloc())?;
-    let Some(words) = read_words(words.as_slice()) else {
+    let Some(words) = read_words(&words) else {
         return eprintln!(rt;
             "words: power|star scattered|descending|multiples VERTICES EDGES STEPS"
         );

@@ -1,5 +1,5 @@
 -- A labelled graph, as two finite maps.
-use Rattle.std.specs.Prelude.{ℕ, Bool, IsTrue, not, ◌&&◌, ◌||◌, eqb, List, filter, min, max, refl}
+use Rattle.std.specs.Prelude.{ℕ, Bool, IsTrue, not, ◌&&◌, ◌||◌, eqb, if◌then◌else◌, List, filter, min, max, Option, None, refl}
 use Rattle.std.specs.Coded.{Coded, code_by, coded×, coded_ℕ}
 use Rattle.std.specs.FinMap as map
 use Rattle.std.specs.Ordering.{nat_cmp, ordering_then}
@@ -21,6 +21,13 @@ empty_graph = record { labels = map.empty; edges = map.empty }
 -- the edge between two vertices, as its lower end and its higher one
 abbrev pub edge_between : ℕ → ℕ → ℕ × ℕ
 edge_between x y = (min x y, max x y)
+
+-- the vertices, and the edges, ascending
+abbrev pub vertices_of : Graph → List ℕ
+vertices_of g = map.keys g.labels
+
+abbrev pub edges_of : Graph → List (ℕ × ℕ)
+edges_of g = map.keys g.edges
 
 abbrev pub has_vertex : Graph → ℕ → Bool
 has_vertex g v = map.contains_key g.labels v
@@ -65,6 +72,10 @@ without_vertex g v = record {
 -- the graph has an edge from one vertex to another
 abbrev pub is_joined : Graph → ℕ → ℕ → Bool
 is_joined g v w = not (eqb v w) && has_edge g (edge_between v w)
+
+-- the label of the edge between two vertices, if one joins them
+abbrev pub label_between : Graph → ℕ → ℕ → Option ℕ
+label_between g v w = if eqb v w then None else map.get g.edges (edge_between v w)
 
 -- the vertices that an edge joins with v, ascending
 abbrev pub neighbours : Graph → ℕ → List ℕ

@@ -1,11 +1,9 @@
 -- That the orders of edges, members and pieces are total.
 use Rattle.std.specs.Prelude.{◌≡◌, ℕ}
 use Rattle.std.proofs.Common.{refl, sym, subst}
-use Rattle.std.specs.Ordering.{nat_cmp, ordering_then, on, then_cmp}
+use Rattle.std.specs.Ordering.{nat_cmp, on, then_cmp}
 use Rattle.std.specs.Cmp.{IsTotalOrder, nat_cmp_total, then_total, on_total}
 use Rattle.std.specs.Cmp.Lexicographic.{lists_total}
-use Rattle.std.specs.declared.cmp.Ordering.{Ordering}
-use Rattle.std.specs.declared.cmp.Ordering.TheVariants.{Less, Equal, Greater}
 use Rattle.graph_types.specs.declared.ids.Mode.{Mode}
 use Rattle.graph_types.specs.declared.ids.Mode.TheVariants as mode
 use Rattle.graph_types.specs.declared.member.Member.{Member}
@@ -13,15 +11,10 @@ use Rattle.graph_types.specs.declared.member.Member.TheVariants as member
 use Rattle.graph_types.specs.meaning.Graph.{pair_cmp}
 use Rattle.graph_types.specs.meaning.Piece.{PieceValue, member_cmp, mode_cmp, piece_cmp}
 use Rattle.graph_types.specs.storage.Slots.{slot_of}
+use Rattle.shared_lemmas.proofs.Orderings.{then_tie}
 
 pub pair_cmp_total : IsTotalOrder pair_cmp
 pair_cmp_total = then_total (on_total (λ (e : ℕ × ℕ). e.0) nat_cmp_total) (on_total (λ (e : ℕ × ℕ). e.1) nat_cmp_total)
-
--- a tie changes nothing
-pub then_tie : (r : Ordering) → r ≡ ordering_then r Equal
-then_tie Less = refl
-then_tie Equal = refl
-then_tie Greater = refl
 
 rank : Member → ℕ
 rank (member.Vertex v) = 0

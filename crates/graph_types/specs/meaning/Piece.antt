@@ -1,6 +1,7 @@
 -- What a piece is made of, and in which order.
-use Rattle.std.specs.Prelude.{◌≡◌, ℕ, ◌<◌, ◌≤◌, Bool, true, false, not, IsTrue, List, [], ◌∷◌, length, map, if◌then◌else◌}
+use Rattle.std.specs.Prelude.{◌≡◌, ℕ, ◌<◌, ◌≤◌, Bool, not, IsTrue, List, [], ◌∷◌, length, map, if◌then◌else◌}
 use Rattle.std.specs.List.{All, list_any}
+use Rattle.std.specs.List.Sorted.{IsStrictlySortedBy}
 use Rattle.std.specs.Cmp.Lexicographic.{slice_cmp}
 use Rattle.std.specs.Ordering.{nat_cmp, is_eq, is_lt, ordering_then}
 use Rattle.std.specs.declared.cmp.Ordering.{Ordering}
@@ -28,12 +29,6 @@ member_lt x y = is_lt (member_cmp x y)
 
 abbrev pub member_eq : Member → Member → Bool
 member_eq x y = is_eq (member_cmp x y)
-
--- each member stands before the next
-abbrev pub is_ascending : List Member → Bool
-is_ascending [] = true
-is_ascending (x ∷ []) = true
-is_ascending (x ∷ y ∷ members) = if member_lt x y then is_ascending (y ∷ members) else false
 
 -- the members with x put before the first that is above it
 abbrev pub with_member : List Member → Member → List Member
@@ -78,7 +73,7 @@ HasLowerFirst (member.Edge e) = e.0 < e.1
 -- what is true of each piece
 pub record IsPiece (piece : PieceValue) : Type 0 where
   pub room : length piece.members ≤ most_members
-  pub ascending : IsTrue (is_ascending piece.members)
+  pub ascending : IsStrictlySortedBy member_cmp piece.members
   pub of_mode : All (IsOfMode piece.mode) piece.members
   pub lower_first : All HasLowerFirst piece.members
 

@@ -5,11 +5,12 @@ use Rattle.std.specs.Ordering.{nat_cmp}
 use Rattle.graph_types.specs.declared.neighbours.Kept.{Kept}
 use Rattle.graph_types.specs.declared.neighbours.Kept.TheVariants.{Few, Many}
 
--- each neighbour with the label of the edge to it
-abbrev pub pairs_of : Kept → List (ℕ × ℕ)
-pairs_of (Few few) = few.items
-pairs_of (Many many) = many.entries
+module _ {V : Type 0} where
+  -- each neighbour with its value
+  abbrev pub pairs_of : Kept V → List (ℕ × V)
+  pairs_of (Few few) = few.items
+  pairs_of (Many many) = many.entries
 
--- the label of the edge to each neighbour
-abbrev pub map_of : Kept → map.FinMap nat_cmp ℕ
-map_of kept = map.from_entries (pairs_of kept)
+  -- the value of each neighbour
+  abbrev pub map_of : Kept V → map.FinMap nat_cmp V
+  map_of kept = map.from_entries (pairs_of kept)

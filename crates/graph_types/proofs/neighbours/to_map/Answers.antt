@@ -6,6 +6,6 @@ use Rattle.std.proofs.lemmas.Iterator.Consumers.{YieldsList-at, YieldsList-from_
 use Rattle.graph_types.proofs.neighbours.to_map.Goals as goal
 
 pub returns : goal.returns
-returns c =
+returns g c =
     fact_from_collect (IsFromIterResult nat_cmp) c.collect.result c.collect.ensures.ran
     (YieldsList-from_copied (YieldsList-at c.copied.ensures.source (YieldsList-from_slice c.args.few.now cc)))

@@ -8,7 +8,8 @@ use Rattle.graph_types.proofs.adjacency.Adjacency.edge_label.Goals as goal
 
 pub returns-in-Some : goal.returns-in-Some
 returns-in-Some c =
-    c.label.ensures
+    c.copied.ensures
+    ∙ c.get-in-Some.ensures
     ∙ ap (option_and_then (λ row. map.get row.near c.args.to)) (c.in-Some.ensures.value ∙ get-seen nat_cmp_total _ _)
     ∙ sym (get-edges _ c.args.from c.args.to)
     ∙ ap (λ g. map.get g.edges (c.args.from, c.args.to)) c.self.view_is

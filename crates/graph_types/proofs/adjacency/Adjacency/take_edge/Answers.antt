@@ -20,6 +20,6 @@ returns c =
     let wrote = c.get_mut.follows.holds (record { label = row.label; near = c.take.new.self }) in
     let rows = map.from_entries c.self.inside.rows.entries in
     ap graph_of_rows (written-seen nat_cmp_total map.nat_cmp-IsAntisymmetric _ _ c.args.from _ (wrote.3 (ap is_some (sym c.in-Some.ensures.value))).0)
-    ∙ ap (λ near. graph_of_rows (map.insert rows c.args.from (record { label = row.label; near = near }))) c.take.ensures
+    ∙ ap (λ near. graph_of_rows (map.insert rows c.args.from (record { label = row.label; near = near }))) c.take.ensures.rest
     ∙ graph-without_edge rows c.args.from row (sym (get-seen nat_cmp_total _ _) ∙ sym c.in-Some.ensures.value) c.args.to
     ∙ ap (λ g. without_edge g (c.args.from, c.args.to)) c.self.view_is

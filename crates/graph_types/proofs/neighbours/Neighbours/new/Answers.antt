@@ -6,7 +6,7 @@ use Rattle.graph_types.proofs.FewPairs.{IsAscending-nothing}
 use Rattle.graph_types.proofs.neighbours.Neighbours.new.Goals as goal
 
 pub invariant_of-result : goal.invariant_of-result
-invariant_of-result c = subst IsAscending (sym c.new.ensures.items) IsAscending-nothing
+invariant_of-result g c = subst IsAscending (sym c.new.ensures.items) (IsAscending-nothing g.row.V.Denot)
 
 pub returns : goal.returns
-returns c = ap (map.from_entries {R = nat_cmp}) c.new.ensures.items
+returns g c = ap (map.from_entries {R = nat_cmp}) c.new.ensures.items

@@ -5,23 +5,22 @@ use Rattle.std.specs.FinMap as map
 use Rattle.graph_types.specs.storage.Few.{IsAscending}
 use Rattle.graph_types.specs.storage.Kept.{pairs_of, map_of}
 use Rattle.graph_types.proofs.Views.{get-seen}
-use Rattle.graph_types.proofs.neighbours.Neighbours.label.Goals as goal
+use Rattle.graph_types.proofs.neighbours.Neighbours.get.Goals as goal
 
-pub label-requires : goal.label-requires
-label-requires c = subst IsAscending (sym c.as_slice.ensures) (subst (λ kept. IsAscending (pairs_of kept)) c.in-Few.is c.self.invariant)
+pub get-requires : goal.get-requires
+get-requires g c = subst IsAscending (sym c.deref.ensures.value) (subst (λ kept. IsAscending (pairs_of kept)) c.in-Few.is c.self.invariant)
 
 pub returns-in-Few : goal.returns-in-Few
-returns-in-Few c =
-    c.label.ensures
-    ∙ ap (map.find nat_cmp c.args.to) c.as_slice.ensures
+returns-in-Few g c =
+    c.get.ensures
+    ∙ ap (map.find nat_cmp c.args.to) c.deref.ensures.value
     ∙ sym (map.get-from_entries nat_cmp_total c.in-Few.few.items c.args.to)
     ∙ ap (λ kept. map.get (map_of kept) c.args.to) (sym c.in-Few.is)
     ∙ ap (λ m. map.get m c.args.to) c.self.view_is
 
 pub returns-in-Many : goal.returns-in-Many
-returns-in-Many c =
-    c.copied.ensures
-    ∙ c.get.ensures.value
+returns-in-Many g c =
+    c.get-in-Many.ensures.value
     ∙ get-seen nat_cmp_total c.args.to c.in-Many.many.entries
     ∙ ap (λ kept. map.get (map_of kept) c.args.to) (sym c.in-Many.is)
     ∙ ap (λ m. map.get m c.args.to) c.self.view_is
