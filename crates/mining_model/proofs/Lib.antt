@@ -1,3 +1,6 @@
 pub mod Sides
 pub mod VertexPictures
 pub mod Ascending
+pub mod ShortLists
+pub mod Listed
+pub mod Histories

@@ -1,5 +1,6 @@
 -- What is meant.
 pub mod Step
+pub mod History
 pub mod Picture
 pub mod Connected
 pub mod Embeddings

@@ -1,12 +1,15 @@
 //! Laws about the definitions: each is the contract of a function that does nothing.
 
-ghost use Rattle.std.specs.Prelude.{◌↔◌, IsTrue};
+ghost use Rattle.std.specs.Prelude.{◌↔◌, IsTrue, List};
 ghost use Rattle.std.specs.Cmp.Lexicographic.{slice_cmp};
 ghost use Rattle.std.specs.List.Sorted.{IsStrictlySortedBy};
 ghost use Rattle.graph_types.specs.meaning.Graph.{Graph};
 ghost use Rattle.graph_types.specs.meaning.Piece.{member_cmp};
+ghost use Rattle.graph_types.specs.declared.member.Member.{Member};
+ghost use Rattle.mining_model.specs.meaning.Changes.{added_pieces, removed_pieces, IsOfFirstAlone};
 ghost use Rattle.mining_model.specs.meaning.Connected.{is_connected, IsConnected};
-ghost use Rattle.mining_model.specs.meaning.Embeddings.{Pattern, embeddings};
+ghost use Rattle.shared_lemmas.specs.meaning.Membership.{IsIn};
+ghost use Rattle.mining_model.specs.meaning.Embeddings.{Pattern, embeddings, IsEmbedding};
 
 /// Connected by splits is connected by sides.
 pub fn connected_by_sides()
@@ -17,4 +20,15 @@ pub fn connected_by_sides()
 pub fn embeddings_ascend()
     ensures { (pattern : Pattern) (g : Graph) →
         IsStrictlySortedBy (slice_cmp member_cmp) (embeddings pattern g) }
+{}
+
+/// Which pieces are listed: as embeddings of a graph, as taken away by a step from one graph to another,
+/// and as brought by it.
+pub fn membership()
+    ensures embedded { (pattern : Pattern) (g : Graph) (members : List Member) →
+        IsIn members (embeddings pattern g) ↔ IsEmbedding pattern g members }
+    ensures removed { (pattern : Pattern) (before now : Graph) (members : List Member) →
+        IsIn members (removed_pieces pattern before now) ↔ IsOfFirstAlone pattern before now members }
+    ensures added { (pattern : Pattern) (before now : Graph) (members : List Member) →
+        IsIn members (added_pieces pattern before now) ↔ IsOfFirstAlone pattern now before members }
 {}

@@ -1,6 +1,6 @@
 -- What an update does to a graph, and the graph that a list of updates leaves.
-use Rattle.std.specs.Prelude.{ℕ, not, List, [], ◌∷◌, take, eqb, Result, Ok, Err, if◌then◌else◌}
-use Rattle.graph_types.specs.meaning.Graph.{Graph, empty_graph, has_vertex, has_edge, edge_between, with_vertex, with_edge, without_vertex, without_edge}
+use Rattle.std.specs.Prelude.{ℕ, not, List, [], ◌∷◌, eqb, Result, Ok, Err, if◌then◌else◌}
+use Rattle.graph_types.specs.meaning.Graph.{Graph, has_vertex, has_edge, edge_between, with_vertex, with_edge, without_vertex, without_edge}
 use Rattle.graph_types.specs.declared.update.Update.{Update}
 use Rattle.graph_types.specs.declared.update.Update.TheVariants.{AddVertex, RemoveVertex, LabelVertex, AddEdge, RemoveEdge, LabelEdge}
 
@@ -56,7 +56,3 @@ graph_after g u = graph_left_by g (step g u)
 abbrev pub graph_after_all : Graph → List Update → Graph
 graph_after_all g [] = g
 graph_after_all g (u ∷ us) = graph_after_all (graph_after g u) us
-
--- the snapshot after the first t updates, from nothing
-abbrev pub snapshot : List Update → ℕ → Graph
-snapshot us t = graph_after_all empty_graph (take t us)
