@@ -5,8 +5,6 @@
 mod command;
 mod options;
 mod settings;
-#[cfg(test)]
-mod tests;
 mod words;
 
 pub use command::{Command, Options, Verb, WordsFault};

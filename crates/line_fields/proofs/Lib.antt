@@ -1,3 +1,4 @@
 pub mod WordsOf
 pub mod NumberOf
+pub mod Decimals
 mod Numbers

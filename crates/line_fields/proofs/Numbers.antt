@@ -2,7 +2,7 @@
 use Rattle.std.proofs.Common.{◌≡◌, ℕ, zero, suc, ◌+◌, ◌<◌, ◌≤◌, Bool, true, false, not, cond, ltb, eqb, ◌&&◌, ◌⊎◌, inl, inr, List, [], ◌∷◌, ◌++◌, map, length, position, slice_get, option_map, get_or, Option, None, Some, refl, sym, subst, ap, ◌∙◌, arith, length-append}
 use Rattle.std.specs.List.{list_any, list_all, position_or_len}
 use Rattle.std.specs.Str.{bytes_eq}
-use Rattle.std.proofs.lemmas.Bool.{lt-ltb, le-ltb, ne_eqb, eq-eqb, cases_lt}
+use Rattle.std.proofs.lemmas.Bool.{and_parts, cases_lt, eq-eqb, le-ltb, lt-ltb, ne_eqb}
 use Rattle.std.proofs.lemmas.List.{length-map, map-append}
 use Rattle.std.proofs.lemmas.List.Folds.{position_or_len_push, list_all-append}
 use Rattle.std.proofs.lemmas.List.Quantifiers.{position-Some}
@@ -81,19 +81,11 @@ slice_get-push_cases (z ∷ xs) y (suc i) x at = elim (slice_get-push_cases xs y
   | inr last ↦ inr (omega (arith, last.0), last.1)
 ]
 
-and_left : (a b : Bool) → (a && b) ≡ true → a ≡ true
-and_left true b h = refl
-and_left false b h = h
-
-and_right : (a b : Bool) → (a && b) ≡ true → b ≡ true
-and_right true b h = h
-and_right false b h = absurd (let no : false ≡ true = h in cc)
-
 -- an item of a list whose items all pass a test passes it
 list_all-slice_get : {X : Type 0} (p : X → Bool) (xs : List X) (i : ℕ) (x : X) → list_all p xs ≡ true → slice_get xs i ≡ Some x → p x ≡ true
 list_all-slice_get p [] i x all at = absurd (let none : None ≡ Some x = at in cc)
-list_all-slice_get p (y ∷ xs) zero x all at = let same : Some y ≡ Some x = at in let equal : y ≡ x = cc in ap p (sym equal) ∙ (and_left (p y) (list_all p xs) all)
-list_all-slice_get p (y ∷ xs) (suc i) x all at = list_all-slice_get p xs i x (and_right (p y) (list_all p xs) all) at
+list_all-slice_get p (y ∷ xs) zero x all at = let same : Some y ≡ Some x = at in let equal : y ≡ x = cc in ap p (sym equal) ∙ (and_parts (p y) (list_all p xs) all).0
+list_all-slice_get p (y ∷ xs) (suc i) x all at = list_all-slice_get p xs i x (and_parts (p y) (list_all p xs) all).1 at
 
 -- the number of a name is its place
 pub slice_get-number_in : (names : Names) (name : List ℕ) (n : ℕ) → number_in names name ≡ Some n → slice_get names n ≡ Some name

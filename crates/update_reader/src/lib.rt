@@ -7,12 +7,10 @@ ghost use Rattle.update_reader.specs.meaning.Grammar.{form_with, ids_of};
 ghost use Rattle.update_reader.specs.calls.Reading.{ReadsLine, ReadsForm, ReadsLabel, ReadsVertex, ReadsEdge};
 
 mod keyword;
-#[cfg(test)]
-mod tests;
 
 use graph_types::{LabelId, Update, VertexId};
-use line_fields::{NO_NAME, is_label, is_nothing, read_id, word, words};
 use keyword::{Keyword, read_keyword};
+use line_fields::{NO_NAME, is_label, is_nothing, read_id, word, words};
 pub use line_fields::{NameFault, Names};
 use std::alloc::Global;
 

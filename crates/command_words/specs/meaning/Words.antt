@@ -3,7 +3,7 @@ use Rattle.std.specs.Prelude.{ℕ, ◌+◌, Bool, true, false, ◌&&◌, List, [
 use Rattle.std.specs.List.{position}
 use Rattle.std.specs.Option.{option_map, option_map_or, option_and_then}
 use Rattle.std.specs.Str.{bytes_eq}
-use Rattle.line_fields.specs.meaning.Fields.{number_of}
+use Rattle.line_fields.specs.meaning.Fields.{number_of, is_dash}
 use Rattle.command_words.specs.declared.command.Verb.{Verb}
 use Rattle.command_words.specs.declared.command.Verb.TheVariants.{Mine, Fold}
 use Rattle.command_words.specs.declared.command.Options.{Options}
@@ -42,9 +42,6 @@ pub record Setting : Type 0 where
 
 abbrev pub setting_of : List ℕ → List ℕ → Setting
 setting_of name value = record { name = name; value = value }
-
-abbrev pub is_dash : ℕ → Bool
-is_dash b = eqb b 45
 
 abbrev pub is_equals : ℕ → Bool
 is_equals b = eqb b 61

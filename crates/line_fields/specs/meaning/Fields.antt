@@ -43,6 +43,9 @@ is_nothing_words ((b ∷ bs) ∷ words) = eqb b 35
 abbrev pub is_nothing_line : List ℕ → Bool
 is_nothing_line line = is_nothing_words (words_of line)
 
+abbrev pub is_dash : ℕ → Bool
+is_dash b = eqb b 45
+
 abbrev pub is_digit : ℕ → Bool
 is_digit b = nat_le 48 b && nat_le b 57
 
