@@ -64,9 +64,9 @@ BothKnown-weaker (Some was) (Some is) P Q weaker known = weaker was is known
 
 -- ---- each outcome of a call for the next line, from what was taken for it
 module _ (was is : Option (List ℕ)) (old new : Reading) where
-  pub stops_in_line : IsTrue old.line.whole → MovesBytes old.held new.held was is → IsShort new.held → BothKnown was is (StopsInLine old new)
-  stops_in_line whole taken short =
-      BothKnown-weaker was is (λ a b. old.held ++ a ≡ new.held ++ b) (StopsInLine old new) (λ a b same. record { after_whole = whole; taken = same; no_line = short.no_lf; short = short.short }) taken
+  pub stops_in_line : IsTrue old.line.whole → MovesBytes old.held new.held was is → IsShort new.held → (old.number ≡ old.most → new.held ≡ []) → BothKnown was is (StopsInLine old new)
+  stops_in_line whole taken short within =
+      BothKnown-weaker was is (λ a b. old.held ++ a ≡ new.held ++ b) (StopsInLine old new) (λ a b same. record { after_whole = whole; taken = same; no_line = short.no_lf; short = short.short; within = within }) taken
 
   pub gives_line : (now : List ℕ) (n : ℕ) → MovesBytes old.held now was is → HasLineOf now n → new.line ≡ record { bytes = take n now; whole = true } → new.held ≡ drop (n + 1) now
       → BothKnown was is (GivesLine old new)

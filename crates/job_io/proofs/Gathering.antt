@@ -3,12 +3,14 @@
 -- What two calls of `put` say together is `Gathers-then` of their clauses, and with a `send` after them it is
 -- `Gathers-Puts`. At the exit of a `?` it is `Gathers-err _ c.from_residual.ensures.0` of what the failed call
 -- says, with a `Gathers-more _` around that for each text that was to follow.
-use Rattle.std.proofs.Common.{◌≡◌, ℕ, ◌+◌, ◌≤◌, List, [], ◌++◌, length, min, take, drop, Option, Some, None, Result, Ok, Err, IsErr, sym, ap, subst, ◌∙◌, append_assoc, arith}
+use Rattle.std.proofs.Common.{◌≡◌, ℕ, ◌+◌, ◌≤◌, List, [], ◌++◌, length, min, take, drop, Option, Some, None, Result, Ok, Err, IsErr, inl, inr, sym, ap, subst, ◌∙◌, append_assoc, arith}
 use Rattle.std.proofs.Math.Seq.{take-append-add}
 use Rattle.std.proofs.lemmas.List.{append-nil, take_min, take-append-drop, take-append-le}
 use Rattle.std.proofs.lemmas.Bool.{false≢true}
 use Rattle.std.specs.Io.KnownBytes.{Appends, Keeps, ReadConsumes, WriteAppends}
+use Rattle.job_io.specs.declared.ends.Failed.{Failed}
 use Rattle.job_io.specs.calls.Ends.{AppendsPrefix, Puts, PassesOn, Gathers}
+use Rattle.job_io.specs.calls.WriteCalls.{Writes, Stops, WritesAll, WritesBoth}
 
 -- two appends are one
 pub Appends-then : (old mid new : Option (List ℕ)) (xs ys : List ℕ) → Appends old mid xs → Appends mid new ys → Appends old new (xs ++ ys)
@@ -112,6 +114,21 @@ Puts-err (Err d) is p = record { all = tt; front = p.front }
 -- the exit of a `?` where more was to follow
 pub Puts-more : {T E : Type 0} {old new : Option (List ℕ)} {text : List ℕ} {e : E} (more : List ℕ) → Puts {T = T} old new text (Err e) → Puts {T = T} old new (text ++ more) (Err e)
 Puts-more more p = record { all = tt; front = AppendsFront-more more p.front }
+
+-- the exit of a `?` on the last of the calls
+pub WritesAll-stops : {O T E : Type 0} {gives : O → List ℕ → Result ℕ Failed → O → Type 0} {old new : O} {text : List ℕ} (result : Result T E) → IsErr result → Stops gives old text new → WritesAll gives old text new result
+WritesAll-stops (Ok v) is stops = absurd (false≢true is)
+WritesAll-stops (Err e) is stops = stops
+
+-- and on the last of those for the first of two texts
+pub WritesBoth-stops : {O T E : Type 0} {gives : O → List ℕ → Result ℕ Failed → O → Type 0} {old new : O} {first : List ℕ} (second : List ℕ) (result : Result T E) → IsErr result → Stops gives old first new → WritesBoth gives old first second new result
+WritesBoth-stops second (Ok v) is stops = absurd (false≢true is)
+WritesBoth-stops second (Err e) is stops = inl stops
+
+-- a text, and then another one
+pub WritesBoth-then : {O T E : Type 0} {gives : O → List ℕ → Result ℕ Failed → O → Type 0} {old mid : O} (new : O) {first : List ℕ} (second : List ℕ) (result : Result T E) → Writes gives old first mid [] → WritesAll gives mid second new result → WritesBoth gives old first second new result
+WritesBoth-then {mid = mid} new second (Ok v) begun all = (mid, begun, all)
+WritesBoth-then {mid = mid} new second (Err e) begun stops = inr (mid, begun, stops)
 
 -- a text was passed on, and then another one
 pub Gathers-then : {S D T E : Type 0} {old mid new : Option (List ℕ)} {held holds keeps first second : List ℕ} {v : S} {result : Result T E} → Gathers {T = S} {E = D} old held mid holds first (Ok v) → Gathers mid holds new keeps second result → Gathers old held new keeps (first ++ second) result

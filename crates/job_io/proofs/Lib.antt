@@ -3,3 +3,4 @@ pub mod Copying
 pub mod LinesOf
 pub mod Ahead
 pub mod BlockOf
+pub mod Known

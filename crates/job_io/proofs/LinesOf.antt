@@ -131,3 +131,16 @@ without_cr-push [] b = refl
 without_cr-push (c ∷ []) b = cons-cond c (eqb b cr) [] (b ∷ [])
 without_cr-push (c ∷ d ∷ line) b =
     ap (λ bytes. c ∷ bytes) (without_cr-push (d ∷ line) b) ∙ cons-cond c (eqb b cr) (d ∷ line) (d ∷ line ++ b ∷ [])
+
+-- a text that has a byte has a line
+pub some_line : (text : List ℕ) → text ≢ [] →
+    (line : Line) × (others : List Line) × (lines_of text ≡ line ∷ others)
+some_line [] nonempty = absurd (nonempty refl)
+some_line (b ∷ bs) nonempty = elim (lf_or_none (b ∷ bs)) [
+  | inl first ↦ (
+    record { bytes = first.line; whole = true },
+    lines_of first.rest,
+    ap lines_of first.split ∙ lines_of-whole first.line first.rest first.no_lf,
+  )
+  | inr none ↦ (record { bytes = b ∷ bs; whole = false }, [], lines_of-last b bs none)
+]

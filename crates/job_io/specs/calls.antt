@@ -2,3 +2,5 @@
 pub mod Ends
 pub mod Reading
 pub mod Memory
+pub mod WriteCalls
+pub mod Streams

@@ -10,6 +10,7 @@ mod memory;
 mod page;
 mod short_line;
 mod standard;
+mod streams;
 
 pub use ends::{Failed, Sink, Source, WriteFault, put_all};
 pub use line_fields::{
@@ -17,8 +18,9 @@ pub use line_fields::{
     word, words,
 };
 pub use line_reader::{LineFault, LineReader};
-pub use lines::{LineList, without_cr};
+pub use lines::LineList;
 pub use memory::{ByteList, CallList, MemorySink, MemorySource};
 pub use page::{PAGE_BYTES, Page};
 pub use short_line::{SHORT_LINE_BYTES, ShortLine};
 pub use standard::{StdSink, StdSource};
+pub use streams::{ReaderSource, WriterSink};

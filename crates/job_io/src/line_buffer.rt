@@ -1,6 +1,6 @@
 // The block of bytes that a reader of lines works in: the line that it gave last, and what it took from the
 // source and has not given.
-ghost use Rattle.std.specs.Prelude.{◌≡◌, ◌+◌, ◌≤◌, ℕ, List, [], ◌++◌, take, drop, length, IfOk, MatchResult};
+ghost use Rattle.std.specs.Prelude.{◌≡◌, ◌+◌, ◌-◌, ◌≤◌, ℕ, List, [], ◌++◌, take, drop, length, IfOk, MatchResult};
 ghost use Rattle.job_io.specs.calls.Ends.{HasCause};
 ghost use Rattle.job_io.specs.storage.LineBuffer.{TakesBlock};
 ghost use Rattle.job_io.specs.meaning.Lines.{most_line_bytes};
@@ -12,6 +12,9 @@ use std::marker::Model;
 
 // The bytes of the block. With at most 4,096 of them unread, a read gets room for 28,672.
 const BLOCK: usize = 32_768;
+
+// A smaller block costs calls, and a larger one memory.
+const _: () = prove!(BLOCK >= 16_384 && BLOCK <= 65_536);
 
 #[derive(Drop)]
 pub struct LineBuffer {
@@ -81,6 +84,9 @@ impl LineBuffer {
         ensures line_gone { self.new.line ≡ [] }
         ensures taken { TakesBlock self.old.held self.new.held (S.left src.old) (S.left src.new) result }
         ensures cause { HasCause (S.faults src.old) (S.faults src.new) result }
+
+        // All the room after what is held is offered, in one read.
+        ensures asked { S.read_gives src.old (BLOCK - length self.old.held) result src.new }
     {
         self.bytes.copy_within(self.start..self.end, 0);
         self.end -= self.start;

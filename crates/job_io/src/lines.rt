@@ -7,8 +7,8 @@ use graph_types::List;
 /// Lines, each without its LF.
 pub type LineList = List<ByteList>;
 
-/// A line without the one CR that may stand at its end.
-pub fn without_cr(line: &[u8]) -> &[u8]
+// A line without the one CR that may stand at its end.
+pub(crate) fn without_cr(line: &[u8]) -> &[u8]
     ensures { result.now ≡ without_cr_of line.now }
 {
     let Some((last, rest)) = line.split_last() else {

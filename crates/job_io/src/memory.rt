@@ -62,6 +62,8 @@ impl Source for MemorySource {
 
     ghost faults = { λ s. s.faults };
 
+    ghost read_gives = { λ s room answer t. (answer ≡ read_answer s room) × (t ≡ after_read s room) };
+
     /// Takes time in the length of the list of failing calls.
     fn read(&mut self, buf: &mut [u8]) -> Result<usize, Failed>
         ensures bound { ReadsAtMost result buf.new }
@@ -73,7 +75,7 @@ impl Source for MemorySource {
         if self.tally.next_fails() {
             return Err(Failed);
         }
-        let (_, left) = self.bytes.as_slice().split_at(self.given);
+        let (_, left) = self.bytes.split_at(self.given);
         let n = copy_front(left, self.step, buf);
         self.given += n;
         Ok(n)
@@ -159,6 +161,8 @@ impl Sink for MemorySink {
 
     ghost faults = { λ s. s.faults };
 
+    ghost write_gives = { λ s bytes answer t. (answer ≡ write_answer s (length bytes)) × (t ≡ after_write s bytes) };
+
     /// Takes no memory, and time in the length of the list of failing calls.
     fn write(&mut self, bytes: &[u8]) -> Result<usize, Failed>
         ensures bound { WritesAtMost result bytes.now }
@@ -211,7 +215,7 @@ impl Tally {
         ensures kept { self.old.faults ≤ self.new.faults }
     {
         self.calls = self.calls.saturating_add(1);
-        let fails = self.failing.as_slice().contains(&self.calls);
+        let fails = self.failing.contains(&self.calls);
         if fails {
             self.raise();
         }
@@ -224,70 +228,5 @@ impl Tally {
         ensures kept { self.old.faults ≤ self.new.faults }
     {
         self.faults = self.faults.saturating_add(1);
-    }
-}
-
-#[cfg(test)]
-mod tests {
-    use super::*;
-    use crate::{WriteFault, put_all};
-    use std::test::Fail;
-
-    fn bytes_of(alloc: Global, text: &[u8]) -> Result<ByteList, NoMemory> {
-        let mut bytes = ByteList::new(alloc);
-        for b in text {
-            bytes.push(*b)?;
-        }
-        Ok(bytes)
-    }
-
-    fn calls_of(alloc: Global, numbers: &[u64]) -> Result<CallList, NoMemory> {
-        let mut calls = CallList::new(alloc);
-        for n in numbers {
-            calls.push(*n)?;
-        }
-        Ok(calls)
-    }
-
-    #[test]
-    fn gives_a_step_at_a_time_and_fails_as_told(rt: HostRuntime) -> Result<(), Fail> {
-        let bytes = bytes_of(rt.alloc(), b"abcdef")?;
-        let mut source = MemorySource::new(bytes, 4, calls_of(rt.alloc(), &[2])?);
-        let mut buf = [0; 8];
-        assert_eq!(rt; source.read(&mut buf), Ok(4));
-        assert_eq!(rt; buf, *b"abcd\0\0\0\0");
-        assert_eq!(rt; source.read(&mut buf), Err(Failed));
-        assert_eq!(rt; source.read(&mut buf), Ok(2));
-        assert_eq!(rt; buf, *b"efcd\0\0\0\0");
-        assert_eq!(rt; source.read(&mut buf), Ok(0));
-        assert_eq!(rt; source.tally.faults, 1);
-        Ok(())
-    }
-
-    #[test]
-    fn takes_a_step_at_a_time_until_it_is_full(rt: HostRuntime) -> Result<(), Fail> {
-        let text = b"twelve bytes";
-        for (room, result, written, calls, faults) in [
-            (100, Ok(()), 12, 3, 0),
-            (12, Ok(()), 12, 3, 0),
-            (10, Err(WriteFault), 10, 3, 1),
-        ] {
-            let mut sink = MemorySink::new(rt.alloc(), room, 5, CallList::new(rt.alloc()))?;
-            assert_eq!(rt; put_all(&mut sink, text), result);
-            assert_eq!(rt; sink.bytes(), &text[..written]);
-            assert_eq!(rt; sink.tally.calls, calls);
-            assert_eq!(rt; sink.tally.faults, faults);
-        }
-        Ok(())
-    }
-
-    #[test]
-    fn refuses_the_calls_that_it_is_told(rt: HostRuntime) -> Result<(), Fail> {
-        let mut sink = MemorySink::new(rt.alloc(), 100, 5, calls_of(rt.alloc(), &[2, 3])?)?;
-        assert_eq!(rt; put_all(&mut sink, b"twelve bytes"), Err(WriteFault));
-        assert_eq!(rt; put_all(&mut sink, b"!"), Err(WriteFault));
-        assert_eq!(rt; put_all(&mut sink, b"?"), Ok(()));
-        assert_eq!(rt; sink.bytes(), b"twelv?".as_slice());
-        Ok(())
     }
 }

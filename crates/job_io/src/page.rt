@@ -1,11 +1,15 @@
-ghost use Rattle.std.specs.Prelude.{◌≡◌, ◌+◌, ◌≤◌, [], ◌++◌, length, OnErr, IsOk};
+ghost use Rattle.std.specs.Prelude.{◌≡◌, ◌+◌, ◌<◌, ◌≤◌, [], ◌++◌, length, OnErr, IsOk};
 ghost use Rattle.job_io.specs.calls.Ends.{Gathers, HasCause, Puts};
+ghost use Rattle.job_io.specs.calls.WriteCalls.{WritesAll, WritesBoth};
 
 use crate::{Sink, WriteFault, put_all};
 use std::marker::Model;
 
 /// How many bytes a page has room for.
 pub const PAGE_BYTES: usize = 16384;
+
+// A smaller page costs calls, and a larger one room on the stack.
+const _: () = prove!(PAGE_BYTES >= 8192 && PAGE_BYTES <= 32768);
 
 /// Output that is gathered before it goes to a sink, so that the sink has few long writes in place of
 /// many short ones. Contracts see the bytes held.
@@ -47,6 +51,12 @@ impl Page {
         // What fits is only held.
         ensures fits { length self.old + length bytes.now ≤ PAGE_BYTES → IsOk result }
         ensures waits { length self.old + length bytes.now ≤ PAGE_BYTES → out.new ≡ out.old }
+
+        // What does not fit asks for no more writes than what is held takes, and it itself where it is long.
+        ensures sends { PAGE_BYTES < length self.old + length bytes.now → length bytes.now ≤ PAGE_BYTES
+            → WritesAll O.write_gives out.old self.old out.new result }
+        ensures passes { PAGE_BYTES < length bytes.now
+            → WritesBoth O.write_gives out.old self.old bytes.now out.new result }
     {
         if bytes.len() <= PAGE_BYTES - self.len {
             self.hold(bytes);
@@ -65,6 +75,7 @@ impl Page {
         ensures sent { Puts (O.written out.old) (O.written out.new) self.old result }
         ensures cause { HasCause (O.faults out.old) (O.faults out.new) result }
         ensures empty { self.new ≡ [] }
+        ensures calls { WritesAll O.write_gives out.old self.old out.new result }
     {
         let result = put_all(out, &self.bytes[..self.len]);
         self.len = 0;
@@ -79,43 +90,5 @@ impl Page {
         let end = self.len + bytes.len();
         self.bytes[self.len..end].copy_from_slice(bytes);
         self.len = end;
-    }
-}
-
-#[cfg(test)]
-mod tests {
-    use super::*;
-    use crate::{CallList, MemorySink};
-    use std::test::Fail;
-
-    #[test]
-    fn gathers_until_it_is_full(rt: HostRuntime) -> Result<(), Fail> {
-        let mut sink = MemorySink::new(rt.alloc(), 20000, 5000, CallList::new(rt.alloc()))?;
-        let mut page = Page::new();
-        assert_eq!(rt; page.put(&mut sink, b"head "), Ok(()));
-        assert_eq!(rt; sink.bytes(), b"".as_slice());
-        assert_eq!(rt; page.put(&mut sink, &[b'x'; PAGE_BYTES - 1]), Ok(()));
-        assert_eq!(rt; sink.bytes(), b"head ".as_slice());
-        assert_eq!(rt; page.put(&mut sink, b"y"), Ok(()));
-        assert_eq!(rt; sink.bytes(), b"head ".as_slice());
-        assert_eq!(rt; page.send(&mut sink), Ok(()));
-        assert_eq!(rt; sink.bytes().len(), PAGE_BYTES + 5);
-        assert!(rt; sink.bytes().ends_with(b"xy"));
-        Ok(())
-    }
-
-    #[test]
-    fn hands_on_what_is_longer_than_a_page(rt: HostRuntime) -> Result<(), Fail> {
-        let mut sink = MemorySink::new(rt.alloc(), 20000, 5000, CallList::new(rt.alloc()))?;
-        let mut page = Page::new();
-        assert_eq!(rt; page.put(&mut sink, b"head "), Ok(()));
-        assert_eq!(rt; page.put(&mut sink, &[b'x'; PAGE_BYTES + 1]), Ok(()));
-        assert_eq!(rt; sink.bytes().len(), PAGE_BYTES + 6);
-        assert_eq!(rt;
-            page.put(&mut sink, &[b'x'; PAGE_BYTES + 1]),
-            Err(WriteFault)
-        );
-        assert_eq!(rt; sink.bytes().len(), 20000);
-        Ok(())
     }
 }

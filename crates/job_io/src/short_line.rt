@@ -3,6 +3,7 @@ ghost use Rattle.std.specs.Prelude.{◌≡◌, ◌+◌, ◌≤◌, [], ◌++◌,
 use arrayvec::ArrayVec;
 use itoa::Buffer;
 use std::marker::Model;
+use std::ops::DerefSlice;
 
 /// How many bytes a short line has room for.
 pub const SHORT_LINE_BYTES: usize = 384;
@@ -57,17 +58,12 @@ impl ShortLine {
     }
 }
 
-#[cfg(test)]
-mod tests {
-    use super::*;
+impl DerefSlice for ShortLine {
+    type Elem = u8;
 
-    #[test]
-    fn says_bytes_and_numbers(rt: HostRuntime) {
-        let mut line = ShortLine::new();
-        line.push(b"NEW ");
-        line.push_number(18_446_744_073_709_551_615);
-        line.push(b" ");
-        line.push_number(0);
-        assert_eq!(rt; line.as_slice(), b"NEW 18446744073709551615 0".as_slice());
+    ghost deref_gives = { λ line bytes. bytes ≡ line };
+
+    fn deref(&self) -> &[u8] {
+        self.as_slice()
     }
 }

@@ -1,5 +1,5 @@
 -- What a reader of lines knows of the bytes before it, and what it does by its result.
-use Rattle.std.specs.Prelude.{◌≡◌, ◌≢◌, ℕ, ◌+◌, ◌<◌, ◌≤◌, Bool, true, false, List, [], ◌∷◌, ◌++◌, length, take, drop, Option, Result, Ok, Err}
+use Rattle.std.specs.Prelude.{◌≡◌, ◌≢◌, ℕ, ◌+◌, ◌<◌, ◌≤◌, Bool, true, false, IsTrue, List, [], ◌∷◌, ◌++◌, length, take, drop, Option, Result, Ok, Err}
 use Rattle.std.specs.Io.KnownBytes.{IsAtEnd}
 use Rattle.job_io.specs.declared.line_reader.Ahead.{Ahead}
 use Rattle.job_io.specs.declared.line_reader.Ahead.TheVariants.{Whole, Last, End, TooLong}
@@ -43,6 +43,7 @@ TellsAny held later false = (held ≡ []) × IsAtEnd later
 abbrev pub ReadsNext : Reading → Reading → Option (List ℕ) → Option (List ℕ) → Result Bool LineFault → Type 0
 ReadsNext old new was is (Ok true) = BothKnown was is (GivesLine old new)
 ReadsNext old new was is (Ok false) = BothKnown was is (GivesEnd old new)
-ReadsNext old new was is (Err fault.ReadFault) = BothKnown was is (StopsInLine old new) × (old.number ≡ old.most → new.held ≡ [])
+ReadsNext old new was is (Err fault.ReadFault) =
+    BothKnown was is (StopsInLine old new) × IsTrue old.line.whole × IsShort new.held × (old.number ≡ old.most → new.held ≡ [])
 ReadsNext old new was is (Err (fault.TooLong n)) = (n ≡ old.number + 1) × (n ≤ old.most) × BothKnown was is (λ was _. LongLineFollows (old.held ++ was))
 ReadsNext old new was is (Err (fault.TooMany n)) = (n ≡ old.most + 1) × (old.number ≡ old.most) × BothKnown was is (λ was _. old.held ++ was ≢ [])

@@ -96,6 +96,8 @@ pub record StopsInLine (old new : Reading) (was is : List ℕ) : Type 0 where
   pub taken : old.held ++ was ≡ new.held ++ is
   pub no_line : HasNoLf new.held
   pub short : length new.held ≤ most_line_bytes
+  -- after the last line allowed any byte is one too many
+  pub within : old.number ≡ old.most → new.held ≡ []
 
 -- a line follows, and it has too many bytes
 abbrev pub LongLineFollows : List ℕ → Type 0
