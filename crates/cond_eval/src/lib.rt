@@ -5,6 +5,3 @@ mod counting;
 mod evaluation;
 
 pub use evaluation::{holds, keeps, passes, value};
-
-#[cfg(test)]
-mod tests;

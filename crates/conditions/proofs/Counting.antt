@@ -45,12 +45,6 @@ module _ {X Y : Type 0} (f : X → Y) where
   pub count_by-map_filter_le : (p : Y → Bool) (kept : X → Bool) (xs : List X) → count_by p (map f (filter kept xs)) ≤ count_by p (map f xs)
   count_by-map_filter_le p kept xs = omega (arith, count_by-map p (filter kept xs), count_by-map p xs, count_by-filter_le (λ x. p (f x)) (λ x. p (f x)) kept (λ _ _ t. t) xs)
 
-  pub map-filter : (p : Y → Bool) (xs : List X) → map f (filter (λ x. p (f x)) xs) ≡ filter p (map f xs)
-  map-filter p [] = refl
-  map-filter p (x ∷ xs) =
-      let rest = map-filter p xs in
-      elim (p (f x)) as (λ b. map f (cond b (x ∷ filter (λ y. p (f y)) xs) (filter (λ y. p (f y)) xs)) ≡ cond b (f x ∷ filter p (map f xs)) (filter p (map f xs))) [ true ↦ ap (λ ys. f x ∷ ys) rest | false ↦ rest ]
-
   list_any-map_filter : (p : Y → Bool) (kept : X → Bool) (xs : List X) → IsTrue (list_any p (map f (filter kept xs))) → IsTrue (list_any p (map f xs))
   list_any-map_filter p kept [] h = h
   list_any-map_filter p kept (x ∷ xs) h =

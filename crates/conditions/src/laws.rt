@@ -1,11 +1,11 @@
 //! Laws about what terms count: each is the contract of a function that does nothing.
 
 ghost use Rattle.std.specs.Prelude.{◌≡◌, ◌+◌, ◌-◌, ◌*◌, ◌/◌, length};
-ghost use Rattle.graph_types.specs.meaning.Graph.{Graph, empty_graph};
-ghost use Rattle.mining_model.specs.meaning.Connected.{vertices_of};
+ghost use Rattle.graph_types.specs.meaning.Graph.{Graph, edges_of, empty_graph, vertices_of};
+ghost use Rattle.graph_types.specs.meaning.Simple.{IsSimple};
 ghost use Rattle.conditions.specs.declared.condition.Term.{Term};
 ghost use Rattle.conditions.specs.declared.condition.Term.TheVariants.{Missing};
-ghost use Rattle.conditions.specs.meaning.Counts.{IsSimple, term_count, edges_of};
+ghost use Rattle.conditions.specs.meaning.Counts.{term_count};
 
 /// Where each edge has its ends, the lower one first, the pairs without an edge are those that the edges
 /// leave of all pairs.

@@ -35,9 +35,7 @@ impl Cond {
     {
         match self {
             Cond::True | Cond::False => true,
-            Cond::Compare { sum, op: _, bound } => {
-                is_sum_within(sum.as_slice()) && *bound <= MOST_BOUND
-            }
+            Cond::Compare { sum, op: _, bound } => { is_sum_within(sum) && *bound <= MOST_BOUND }
             Cond::Not(c) => c.get().are_numbers_within(),
             Cond::And(c, d) | Cond::Or(c, d) => {
                 c.get().are_numbers_within() && d.get().are_numbers_within()
@@ -55,7 +53,7 @@ impl Cond {
                 sum,
                 op: _,
                 bound: _,
-            } => Size::of_atom(sum_tokens(sum.as_slice()) + 2),
+            } => Size::of_atom(sum_tokens(sum) + 2),
             Cond::Not(c) => c.get().size().negated(),
             Cond::And(c, d) => c.get().size().and(d.get().size()),
             Cond::Or(c, d) => c.get().size().or(d.get().size()),

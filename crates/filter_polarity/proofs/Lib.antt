@@ -1,4 +1,3 @@
-pub mod Retained
 pub mod Parts
 pub mod Passing
 pub mod Smaller

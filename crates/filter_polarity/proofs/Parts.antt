@@ -9,7 +9,7 @@ use Rattle.std.specs.Ordering.{nat_cmp, is_eq}
 use Rattle.std.proofs.lemmas.Bool.{and_parts, and_from, false≢true, or_cases, or_left, or_right}
 use Rattle.std.proofs.lemmas.Bool.Decides.{nat_tests}
 use Rattle.std.proofs.lemmas.List.Elements.{All-head, All-tail}
-use Rattle.graph_types.specs.meaning.Graph.{Graph, ends_at, has_edge, edge_between}
+use Rattle.graph_types.specs.meaning.Graph.{Graph, edge_between, edges_of, ends_at, has_edge, vertices_of}
 use Rattle.graph_types.specs.meaning.Orders.{pair_cmp_total}
 use Rattle.graph_types.specs.meaning.Piece.{IsOfMode}
 use Rattle.graph_types.specs.declared.ids.Mode.{Mode}
@@ -17,15 +17,14 @@ use Rattle.graph_types.specs.declared.ids.Mode.TheVariants as mode
 use Rattle.graph_types.specs.declared.member.Member.{Member}
 use Rattle.graph_types.specs.declared.member.Member.TheVariants as member
 use Rattle.graph_types.proofs.Graph.{pair_cmp-IsAntisymmetric}
-use Rattle.mining_model.specs.meaning.Connected.{vertices_of}
 use Rattle.mining_model.specs.meaning.Picture.{picture, touches, has_member, is_drawn}
 use Rattle.mining_model.proofs.VertexPictures.{has_edge-picture}
 use Rattle.conditions.specs.declared.condition.Term.{Term}
 use Rattle.conditions.specs.declared.condition.Term.TheVariants.{Vertices, Edges, Joins, Kinds, Degree, Missing, Least}
-use Rattle.conditions.specs.meaning.Counts.{term_count, vertex_degree, edge_labels, edges_of, is_apart, is_asked, is_labelled, edge_joins, largest_of, item_pairs, vertex_labels}
+use Rattle.conditions.specs.meaning.Counts.{term_count, vertex_degree, edge_labels, is_apart, is_asked, is_labelled, edge_joins, largest_of, item_pairs, vertex_labels}
 use Rattle.filter_polarity.specs.meaning.Polarity.{is_rising_term}
 use Rattle.conditions.proofs.Counting.{count_by-filter_le, count_by-map_filter_le, count_by-pairs_filter_le, distinct_count-map_filter_le, largest-filter_le}
-use Rattle.filter_polarity.proofs.Retained.{entries-retain_keys, keys-retain_keys}
+use Rattle.shared_lemmas.proofs.FiniteMaps.{entries-retain_keys, get-kept, keys-retain_keys}
 
 -- what a picture keeps of a graph
 
@@ -54,7 +53,7 @@ module _ (g : Graph) (members : List Member) where
 
   is_labelled-picture : (label v : ℕ) → IsTrue (is_labelled part label v) → IsTrue (is_labelled g label v)
   is_labelled-picture label v h =
-      let is = finite.get-retain_keys g.labels touched v (λ w t. ap touched (sym (finite.nat_cmp-IsAntisymmetric v w t))) in
+      let is = get-kept finite.nat_cmp-IsAntisymmetric g.labels touched v in
       labelled_before (touched v) label (finite.get g.labels v) (subst (λ o. IsTrue (option_map_or (eqb label) o false)) is h)
 
   both : (a b c d : ℕ) → IsTrue (is_labelled part a b && is_labelled part c d) → IsTrue (is_labelled g a b && is_labelled g c d)

@@ -1,10 +1,9 @@
 -- The picture that some members have in the picture of more members is theirs in the whole graph.
-use Rattle.std.proofs.Common.{◌≡◌, ℕ, Bool, true, false, cond, IsTrue, List, Option, None, refl, sym, ap, subst, ◌∙◌, ⊎_elim}
-use Rattle.std.specs.Cmp.{IsTotalOrder, nat_cmp_total}
+use Rattle.std.proofs.Common.{◌≡◌, ℕ, Bool, IsTrue, List, subst, ⊎_elim}
+use Rattle.std.specs.Cmp.{nat_cmp_total}
 use Rattle.std.specs.FinMap as finite
 use Rattle.std.specs.List.{All, list_any}
-use Rattle.std.specs.declared.cmp.Ordering.{Ordering}
-use Rattle.std.proofs.lemmas.Bool.{and_parts, and_from, false≢true, or_cases, or_left, or_right}
+use Rattle.std.proofs.lemmas.Bool.{and_parts, and_from, or_cases, or_left, or_right}
 use Rattle.graph_types.specs.meaning.Graph.{Graph}
 use Rattle.graph_types.specs.meaning.Orders.{pair_cmp_total}
 use Rattle.graph_types.specs.meaning.Piece.{IsOfMode, member_eq}
@@ -12,28 +11,14 @@ use Rattle.graph_types.specs.declared.ids.Mode.{Mode}
 use Rattle.graph_types.specs.declared.member.Member.{Member}
 use Rattle.graph_types.specs.declared.member.Member.TheVariants as member
 use Rattle.graph_types.proofs.Graph.{pair_cmp-IsAntisymmetric}
-use Rattle.mining_model.specs.meaning.Connected.{IsIn}
 use Rattle.mining_model.specs.meaning.Picture.{picture, touches, has_member, is_drawn}
-use Rattle.mining_model.proofs.Sides.{list_any_at, list_any_place}
 use Rattle.conditions.specs.declared.condition.Cond.{Cond}
 use Rattle.conditions.specs.meaning.Conditions.{holds}
 use Rattle.filter_polarity.specs.meaning.Polarity.{is_falling}
 use Rattle.filter_polarity.proofs.Passing.{falling_passes}
-
--- to retain some keys of those that were retained
-
-module _ {K X : Type 0} {R : K → K → Ordering} (total : IsTotalOrder R) (same : finite.IsAntisymmetric R) (m : finite.FinMap R X) (first then : K → Bool) where
-  once : (a b : Bool) (o : Option X) → (IsTrue b → IsTrue a) → cond b (cond a o None) None ≡ cond b o None
-  once true b o h = refl
-  once false true o h = absurd (false≢true (h refl))
-  once false false o h = refl
-
-  retain_keys-again : ((k : K) → IsTrue (then k) → IsTrue (first k)) → finite.retain_keys (finite.retain_keys m first) then ≡ finite.retain_keys m then
-  retain_keys-again within = finite.same_map total same _ _ (λ q.
-      finite.get-retain_keys (finite.retain_keys m first) then q (λ x t. ap then (sym (same q x t)))
-      ∙ ap (λ o. cond (then q) o None) (finite.get-retain_keys m first q (λ x t. ap first (sym (same q x t))))
-      ∙ once (first q) (then q) (finite.get m q) (within q)
-      ∙ sym (finite.get-retain_keys m then q (λ x t. ap then (sym (same q x t)))))
+use Rattle.shared_lemmas.specs.meaning.Membership.{IsIn}
+use Rattle.shared_lemmas.proofs.FiniteMaps.{retain_keys-again}
+use Rattle.shared_lemmas.proofs.Membership.{list_any_at, list_any_place}
 
 module _ (g : Graph) (members some : List Member) (within : (m : Member) → IsIn m some → IsIn m members) where
   any_within : (p : Member → Bool) → IsTrue (list_any p some) → IsTrue (list_any p members)

@@ -2,18 +2,19 @@
 
 ghost use Rattle.std.specs.Prelude.{◌≡◌, ◌+◌, ◌-◌, ◌*◌, ◌/◌, List, length, IsTrue};
 ghost use Rattle.std.specs.List.{All};
-ghost use Rattle.graph_types.specs.meaning.Graph.{Graph, empty_graph};
+ghost use Rattle.graph_types.specs.meaning.Graph.{Graph, edges_of, empty_graph, vertices_of};
 ghost use Rattle.graph_types.specs.meaning.Piece.{IsOfMode};
+ghost use Rattle.graph_types.specs.meaning.Simple.{IsSimple};
 ghost use Rattle.graph_types.specs.declared.ids.Mode.{Mode};
 ghost use Rattle.graph_types.specs.declared.member.Member.{Member};
-ghost use Rattle.mining_model.specs.meaning.Connected.{IsIn, vertices_of};
 ghost use Rattle.mining_model.specs.meaning.Picture.{picture};
 ghost use Rattle.conditions.specs.declared.condition.Cond.{Cond};
 ghost use Rattle.conditions.specs.declared.condition.Term.{Term};
 ghost use Rattle.conditions.specs.declared.condition.Term.TheVariants.{Missing};
-ghost use Rattle.conditions.specs.meaning.Counts.{IsSimple, term_count, edges_of};
+ghost use Rattle.conditions.specs.meaning.Counts.{term_count};
 ghost use Rattle.conditions.specs.meaning.Conditions.{holds};
 ghost use Rattle.filter_polarity.specs.meaning.Polarity.{is_falling, is_rising};
+ghost use Rattle.shared_lemmas.specs.meaning.Membership.{IsIn};
 
 /// A falling condition that holds of a picture holds of each part of it, connected or not, also of the
 /// empty one.

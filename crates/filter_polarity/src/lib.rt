@@ -10,6 +10,3 @@ pub use conditions::{Boxed, Cond, Factor, FactorList, Op, Term};
 pub use falling_cond::{Falling, NotFalling};
 pub use polarity::falling;
 pub use program::Program;
-
-#[cfg(test)]
-mod tests;

@@ -2,8 +2,8 @@ ghost use Rattle.std.specs.Prelude.{◌≡◌, IsTrue, IfErr};
 ghost use Rattle.std.specs.Result.{OkIff};
 ghost use Rattle.filter_polarity.specs.meaning.Polarity.{bounds_above, bounds_below, is_falling, is_rising_sum, is_rising_term, is_rising};
 
-use conditions::{Cond, Factor, Op, Term};
 use crate::falling_cond::{Falling, NotFalling};
+use conditions::{Cond, Factor, Op, Term};
 use graph_types::Mode;
 
 /// Takes a condition as falling, or gives it back where it isn't falling in this mode. It follows the
@@ -25,8 +25,7 @@ fn is_falling(mode: Mode, cond: &Cond) -> bool
 {
     match cond {
         Cond::True | Cond::False => true,
-        Cond::Compare { sum, op, bound: _ } => bounds_above(*op)
-            && is_rising_sum(mode, sum.as_slice()),
+        Cond::Compare { sum, op, bound: _ } => bounds_above(*op) && is_rising_sum(mode, sum),
         Cond::Not(c) => is_rising(mode, c.get()),
         Cond::And(c, d) | Cond::Or(c, d) => is_falling(mode, c.get()) && is_falling(mode, d.get()),
     }
@@ -38,8 +37,7 @@ fn is_rising(mode: Mode, cond: &Cond) -> bool
 {
     match cond {
         Cond::True | Cond::False => true,
-        Cond::Compare { sum, op, bound: _ } => bounds_below(*op)
-            && is_rising_sum(mode, sum.as_slice()),
+        Cond::Compare { sum, op, bound: _ } => bounds_below(*op) && is_rising_sum(mode, sum),
         Cond::Not(c) => is_falling(mode, c.get()),
         Cond::And(c, d) | Cond::Or(c, d) => is_rising(mode, c.get()) && is_rising(mode, d.get()),
     }

@@ -3,8 +3,8 @@ ghost use Rattle.graph_types.specs.meaning.Piece.{most_members};
 ghost use Rattle.filter_polarity.specs.meaning.Program.{IsProgram};
 ghost use Rattle.conditions.specs.meaning.Written.{IsWithinLimits};
 
-use conditions::Cond;
 use crate::falling_cond::Falling;
+use conditions::Cond;
 use graph_types::Mode;
 use std::marker::Model;
 

@@ -10,6 +10,3 @@ mod members;
 
 pub use difference::without;
 pub use listing::embeddings;
-
-#[cfg(test)]
-mod tests;

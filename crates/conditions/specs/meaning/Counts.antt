@@ -1,17 +1,13 @@
 -- What the terms of a condition count in a graph.
-use Rattle.std.specs.Prelude.{ℕ, ◌<◌, IsTrue, Bool, true, false, not, ◌&&◌, ◌||◌, eqb, List, [], ◌∷◌, ◌++◌, map, max, min, count_by, Option, None, Some}
+use Rattle.std.specs.Prelude.{ℕ, Bool, true, false, not, ◌&&◌, ◌||◌, eqb, List, [], ◌∷◌, ◌++◌, map, max, min, count_by, Option, None, Some}
 use Rattle.std.specs.FinMap as finite
 use Rattle.std.specs.Option.{option_map_or}
 use Rattle.std.specs.Set.{distinct_count}
-use Rattle.graph_types.specs.meaning.Graph.{EdgesHaveEnds, Graph, ends_at, has_edge, edge_between}
-use Rattle.mining_model.specs.meaning.Connected.{vertices_of}
+use Rattle.graph_types.specs.meaning.Graph.{Graph, edge_between, edges_of, ends_at, has_edge, vertices_of}
 use Rattle.conditions.specs.declared.condition.Term.{Term}
 use Rattle.conditions.specs.declared.condition.Term.TheVariants.{Vertices, Edges, Joins, Kinds, Degree, Missing, Least}
 
--- the edges of a graph, the label of each vertex, and the label of each edge
-abbrev pub edges_of : Graph → List (ℕ × ℕ)
-edges_of g = finite.keys g.edges
-
+-- the label of each vertex, and the label of each edge
 abbrev pub vertex_labels : Graph → List ℕ
 vertex_labels g = finite.values g.labels
 
@@ -63,8 +59,3 @@ term_count Kinds g = distinct_count eqb (vertex_labels g)
 term_count Degree g = largest_of (map (vertex_degree g) (vertices_of g))
 term_count Missing g = count_by (is_apart g) (item_pairs (vertices_of g))
 term_count Least g = least_of (map (vertex_degree g) (vertices_of g))
-
--- each edge of the graph has both its ends, the lower one first
-pub record IsSimple (g : Graph) : Type 0 where
-  pub ends : EdgesHaveEnds g
-  pub lower_first : (e : ℕ × ℕ) → IsTrue (has_edge g e) → e.0 < e.1
