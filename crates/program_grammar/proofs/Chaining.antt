@@ -11,7 +11,7 @@ use Rattle.program_grammar.specs.declared.fault.Refusal.{Refusal}
 use Rattle.program_grammar.specs.declared.fault.Refusal.TheVariants.{BadLine, TooDeep}
 use Rattle.program_grammar.specs.meaning.Token.{Token, word, opening, closing, plus}
 use Rattle.program_grammar.specs.meaning.Grammar.{Production, ReadResult, Nested, ◌>>=◌, tokens_after, if_present, or_bad_line, tokens_past, use_of, more_uses, chain, comparison, atom, neg, and_chain, conj, or_chain, cond_within, nested_within}
-use Rattle.program_grammar.specs.calls.Reading.{ReaderState, PassesToken, MissesToken, ReadsProduction, ReadsUse}
+use Rattle.program_grammar.specs.calls.Reading.{TakesTokens, ReaderState, MissesToken, PassesToken, ReadsProduction, ReadsUse}
 
 -- what a call answered that passes an error on
 pub Reads-err : {A B : Type 0} → (r : Result B ReadError) (e : ReadError) (old new : ReaderState) (a : ReadResult A) (b : ReadResult B)
@@ -106,6 +106,36 @@ module _ (joint : Token) (join : Cond → Cond → Cond) (item : Production Cond
 
     pub chain_fail : (f : Refusal) → item mid.tokens mid.names ≡ Err f → chain joint join item turns left old.tokens old.names ≡ Err f
     chain_fail f read = chain-fail joint join item turns left old.tokens mid.tokens old.names f enough passes.passed (ap (item mid.tokens) (sym passes.names) ∙ read)
+
+-- What is left of a chain to read, after what was read so far, gives what the whole gives.
+pub record Chained (joint : Token) (join : Cond → Cond → Cond) (item : Production Cond) (whole : ReadResult Cond) (start : ReaderState) (left : Cond) (now : ReaderState) : Type 0 where
+  pub turns : ℕ
+  pub enough : length now.tokens ≤ turns
+  pub same : whole ≡ chain joint join item turns left now.tokens now.names
+  pub shorter : length now.tokens ≤ length start.tokens
+  pub known : now.known ≡ start.known
+
+module _ (joint : Token) (join : Cond → Cond → Cond) (item : Production Cond) (whole : ReadResult Cond) (start : ReaderState) (left : Cond) (now : ReaderState) where
+  pub Chained-first : whole ≡ chain joint join item (length now.tokens) left now.tokens now.names → TakesTokens start now → Chained joint join item whole start left now
+  Chained-first same on = record { turns = length now.tokens; enough = omega arith; same = same; shorter = on.shorter; known = on.known }
+
+  module _ (chained : Chained joint join item whole start left now) where
+    pub Chained-stop : (new : ReaderState) → MissesToken joint now new → whole ≡ Ok (left, new.tokens, new.names)
+    Chained-stop new misses = chained.same ∙ chain_stop joint join item chained.turns left now new misses
+
+    module _ (mid : ReaderState) (passes : PassesToken joint now mid) where
+      pub Chained-more : (c later : Cond) (new : ReaderState) → item mid.tokens mid.names ≡ Ok (c, new.tokens, new.names) → TakesTokens mid new → later ≡ join left c → Chained joint join item whole start later new
+      Chained-more c later new read on later_is = record {
+        turns = chained.turns - 1;
+        enough = omega (arith, chained.enough, passes.shorter, on.shorter);
+        same = chained.same ∙ chain_more joint join item chained.turns left now mid chained.enough passes c later new read later_is;
+        shorter = omega (arith, chained.shorter, passes.shorter, on.shorter);
+        known = on.known ∙ passes.known ∙ chained.known;
+      }
+
+      pub Chained-err : (r : Result Cond ReadError) (e : ReadError) (new : ReaderState) → r ≡ Err e → ReadsProduction {A = Cond} (Err e) new (item mid.tokens mid.names) → ReadsProduction r new whole
+      Chained-err r e new is reads =
+          Reads-err r e new new (item mid.tokens mid.names) whole is reads (λ f read. chained.same ∙ chain_fail joint join item chained.turns left now mid chained.enough passes f read)
 
 module _ (within : Nested) (ts later : List Token) (names after : Names) (c : Cond) where
   pub conj-first : neg within ts names ≡ Ok (c, later, after) → conj within ts names ≡ and_chain within (length later) c later after

@@ -1,61 +1,18 @@
--- A number that was written is read as that number.
-use Rattle.std.proofs.Common.{◌≡◌, ℕ, ◌+◌, ◌-◌, ◌*◌, ◌/◌, ◌%◌, ◌^◌, ◌<◌, ◌≤◌, Bool, true, ltb, leb, lit<, List, [], ◌∷◌, ◌++◌, length, None, Some, Ok, refl, sym, ap, subst, ◌∙◌, arith, if◌then◌else◌}
+-- A number of a program that was written is read as that number.
+use Rattle.std.proofs.Common.{◌≡◌, ℕ, ◌^◌, ◌<◌, ◌≤◌, Bool, lit<, None, Some, Ok, ap, ◌∙◌, if◌then◌else◌}
 use Rattle.std.specs.Prelude.{decimal}
-use Rattle.std.specs.List.{list_all}
 use Rattle.std.proofs.Math.Nat.{lt_trans}
-use Rattle.std.proofs.lemmas.Bool.{and_from, le-leb, lt-ltb}
-use Rattle.std.proofs.lemmas.Fmt.{decimal_by_steps, decimal_nonempty, length-decimal-le}
-use Rattle.std.proofs.lemmas.List.Folds.{list_all-append}
-use Rattle.line_fields.specs.meaning.Fields.{has_bytes, is_digit, is_number, number_of, value_after}
+use Rattle.std.proofs.lemmas.Bool.{le-leb}
+use Rattle.line_fields.specs.meaning.Fields.{number_of}
+use Rattle.line_fields.proofs.Decimals.{number_of-decimal}
 use Rattle.program_grammar.specs.meaning.Grammar.{or_bad_line, value_up_to, at_most}
 
-value_after-push : (n : ℕ) (ds : List ℕ) (d : ℕ) → value_after n (ds ++ d ∷ []) ≡ 10 * value_after n ds + (d - 48)
-value_after-push n [] d = refl
-value_after-push n (x ∷ ds) d = value_after-push (10 * n + (x - 48)) ds d
-
--- digits that give this number
-record Says (n : ℕ) (digits : List ℕ) : Type 0 where
-  digits_alone : list_all is_digit digits ≡ true
-  value : value_after 0 digits ≡ n
-
-digit_passes : (d : ℕ) → 48 ≤ d → d ≤ 57 → is_digit d ≡ true
-digit_passes d low high = and_from (leb 48 d) (leb d 57) (le-leb 48 d low) (le-leb d 57 high)
-
-Says-one : (n : ℕ) → n < 10 → Says n ((48 + n) ∷ [])
-Says-one n small = record {
-  digits_alone = and_from _ _ (digit_passes (48 + n) (omega arith) (omega arith)) refl;
-  value = omega arith;
-}
-
-Says-more : (n : ℕ) (ds : List ℕ) → 10 ≤ n → Says (n / 10) ds → Says n (ds ++ ((48 + n % 10) ∷ []))
-Says-more n ds large before = record {
-  digits_alone = list_all-append is_digit ds ((48 + n % 10) ∷ []) ∙ and_from _ _ before.digits_alone (and_from _ _ (digit_passes (48 + n % 10) (omega arith) (omega arith)) refl);
-  value = value_after-push 0 ds (48 + n % 10) ∙ ap (λ k. 10 * k + (48 + n % 10 - 48)) before.value ∙ (omega arith);
-}
-
-has_bytes-some : (bytes : List ℕ) → 0 < length bytes → has_bytes bytes ≡ true
-has_bytes-some [] h = absurd (omega arith)
-has_bytes-some (b ∷ bytes) h = refl
-
 module _ (n : ℕ) (short : n < 10 ^ 10) where
-  fits : n < 2 ^ 64
+  pub fits : n < 2 ^ 64
   fits = lt_trans short (lit< tt)
 
-  says : Says n (decimal n)
-  says = decimal_by_steps Says Says-one Says-more n fits
-
-  pub digits-decimal : list_all is_digit (decimal n) ≡ true
-  digits-decimal = says.digits_alone
-
-  pub has_bytes-decimal : has_bytes (decimal n) ≡ true
-  has_bytes-decimal = has_bytes-some (decimal n) (decimal_nonempty n fits)
-
-  pub number_of-decimal : number_of 10 (decimal n) ≡ Some n
-  number_of-decimal =
-      let value = says.value in
-      let number : is_number 10 (decimal n) ≡ true = and_from _ _ (and_from _ _ has_bytes-decimal (le-leb _ 10 (length-decimal-le 10 n (lit< tt) short fits))) digits-decimal in
-      let small : ltb (value_after 0 (decimal n)) (2 ^ 64) ≡ true = lt-ltb _ (2 ^ 64) (subst (λ k. k < 2 ^ 64) (sym value) fits) in
-      ap (λ b. if b then Some (value_after 0 (decimal n)) else None) (and_from _ _ number small) ∙ ap Some value
+  pub ten_digits-decimal : number_of 10 (decimal n) ≡ Some n
+  ten_digits-decimal = number_of-decimal 10 n (lit< tt) short fits
 
   pub value_up_to-decimal : (most : ℕ) → n ≤ most → value_up_to most (decimal n) ≡ Ok n
-  value_up_to-decimal most few = ap (λ o. or_bad_line (at_most most o)) number_of-decimal ∙ ap (λ (b : Bool). or_bad_line (if b then Some n else None)) (le-leb n most few)
+  value_up_to-decimal most few = ap (λ o. or_bad_line (at_most most o)) ten_digits-decimal ∙ ap (λ (b : Bool). or_bad_line (if b then Some n else None)) (le-leb n most few)

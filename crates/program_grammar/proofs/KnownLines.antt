@@ -16,7 +16,7 @@ use Rattle.program_grammar.specs.meaning.Grammar.{condition_of}
 use Rattle.program_grammar.specs.meaning.Header.{condition_after_word, filter_of, header_said, if_falling, is_first, is_word, mode_said, awaited_line_said, size_of}
 use Rattle.program_grammar.specs.meaning.Programs.{ProgramOutcome, outcome_after_line, lines_said, program_said}
 use Rattle.program_grammar.specs.meaning.Text.{knows_labels}
-use Rattle.program_grammar.proofs.Limits.{ok_same, bind_ok, chosen_ok}
+use Rattle.program_grammar.proofs.Productions.{bind_ok, chosen_ok, ok_same}
 use Rattle.program_grammar.proofs.Known.{KnownThen, condition_of-known, still_known}
 
 -- the labels of a program are known

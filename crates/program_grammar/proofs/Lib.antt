@@ -2,6 +2,7 @@ pub mod Splitting
 pub mod Places
 pub mod Chaining
 pub mod Whole
+pub mod Productions
 pub mod Limits
 pub mod Lines
 pub mod WholePrograms

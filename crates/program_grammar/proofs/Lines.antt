@@ -1,5 +1,5 @@
 -- The lines of a header, step by step.
-use Rattle.std.proofs.Common.{◌≡◌, ℕ, ◌+◌, ◌≤◌, Bool, true, false, IsTrue, inl, inr, List, ◌++◌, length, map, Result, Ok, Err, codes, refl, sym, ap, subst, ◌∙◌, arith, length-append, if◌then◌else◌}
+use Rattle.std.proofs.Common.{◌≡◌, ℕ, ◌+◌, ◌≤◌, true, false, inl, inr, List, ◌++◌, length, map, Result, Ok, Err, codes, refl, sym, ap, subst, ◌∙◌, arith, length-append, if◌then◌else◌}
 use Rattle.std.proofs.lemmas.List.{length-map}
 use Rattle.graph_types.specs.declared.ids.Mode.{Mode}
 use Rattle.line_fields.specs.meaning.Names.{Names, most_names}
@@ -58,10 +58,6 @@ module _ (m : Mode) (line : List ℕ) (names : Names) where
 
 pub Grows-labels : (names labels new : Names) → new ≡ names ++ labels → length labels ≤ most_tokens → AddsNames most_tokens names new
 Grows-labels names labels new is few = record { more = labels; behind = is; few = few }
-
-pub not-true : (b : Bool) → ¬ IsTrue b → b ≡ false
-not-true true no_proof = absurd (no_proof refl)
-not-true false no_proof = refl
 
 pub length-seen : {X : Type 0} (f : X → List ℕ) (xs seen : List X) → seen ≡ xs → length seen ≡ length (map f xs)
 length-seen f xs seen e = ap length e ∙ sym (length-map xs f)

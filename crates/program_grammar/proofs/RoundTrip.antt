@@ -25,8 +25,8 @@ use Rattle.program_grammar.specs.meaning.Programs.{LinesFit, fits_next, outcome_
 use Rattle.program_grammar.specs.calls.Answers.{HasRoom}
 use Rattle.program_grammar.specs.meaning.Text.{cond_text, knows_labels, mode_text, program_text}
 use Rattle.program_grammar.proofs.Splitting.{tokens_of-blanks}
-use Rattle.program_grammar.proofs.Limits.{some_same}
-use Rattle.program_grammar.proofs.Digits.{number_of-decimal}
+use Rattle.program_grammar.proofs.Productions.{some_same}
+use Rattle.program_grammar.proofs.Digits.{ten_digits-decimal}
 use Rattle.program_grammar.proofs.ReadBack.{condition_of-written, some_tokens}
 
 -- ---- words
@@ -73,7 +73,7 @@ module _ (names : Names) where
   unfolding header_said awaited_line_said size_of
   size_line m n some few =
       ap (λ words. size_said (value_of (codes "size") (codes "size" ∷ words)) >>= λ n. Ok (More (header.Filter m n), names)) (one_word n (omega (arith, few)))
-      ∙ ap (λ o. size_in_range o >>= λ n. Ok (More (header.Filter m n), names)) (number_of-decimal n (omega (arith, few)))
+      ∙ ap (λ o. size_in_range o >>= λ n. Ok (More (header.Filter m n), names)) (ten_digits-decimal n (omega (arith, few)))
       ∙ ap (λ b. in_range (if b then Some n else None) >>= λ n. Ok (More (header.Filter m n), names)) (and_from (nat_le 1 n) (nat_le n most_members) (le-leb 1 n some) (le-leb n most_members few))
 
   begin_line : (n : ℕ) (p : ProgramValue) → n ≡ p.size → header_said (header.Begin n (record { mode = p.mode; cond = p.filter }) p.matching) (codes "begin") names ≡ Ok (Ready p, names)

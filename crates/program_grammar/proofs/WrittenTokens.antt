@@ -20,7 +20,8 @@ use Rattle.program_grammar.specs.meaning.Token.{Token, word, number, opening, cl
 use Rattle.program_grammar.specs.meaning.Lexing.{sign_at, token_at, tokens_of}
 use Rattle.program_grammar.specs.meaning.Text.{Text, text_in_place, text_by, bound_text, cond_text, label_text, term_text, factor_text, more_text, sum_text, op_text, knows_labels, knows_labels_by, knows_term}
 use Rattle.program_grammar.proofs.Splitting.{tokens_of-front}
-use Rattle.program_grammar.proofs.Digits.{digits-decimal, has_bytes-decimal}
+use Rattle.line_fields.proofs.Decimals.{digits-decimal, has_bytes-decimal}
+use Rattle.program_grammar.proofs.Digits.{fits}
 
 -- The tokens of each part as it is written, with others after them.
 
@@ -202,7 +203,7 @@ lexes_digits [] some all = absurd (false≢true some)
 lexes_digits (b ∷ bs) some all = lexes_number b bs all
 
 lexes_decimal : (n : ℕ) → n < 10 ^ 10 → Lexes (decimal n) (λ ts. number (decimal n) ∷ ts)
-lexes_decimal n short = lexes_digits (decimal n) (has_bytes-decimal n short) (digits-decimal n short)
+lexes_decimal n short = lexes_digits (decimal n) (has_bytes-decimal n (fits n short)) (digits-decimal n (fits n short))
 
 -- ---- signs and blanks
 

@@ -11,9 +11,9 @@ use crate::terms::value_up_to;
 use crate::token::Token;
 use crate::tokens::count_tokens;
 use conditions::{Cond, Op};
+use line_fields::Names;
 use sqlite_items::Boxed;
 use std::alloc::{AllocError, Global};
-use line_fields::Names;
 
 /// The largest bound of a sum.
 const MOST_BOUND: u32 = 10_000;

@@ -10,12 +10,11 @@ use crate::condition::parse;
 use crate::fault::{ProgramFault, ReadError, Refusal};
 use crate::labels::intern_all;
 use crate::limited::{Filter, Matching, Size};
-use filter_polarity::{Program, falling};
 use conditions::Cond;
+use filter_polarity::{Program, falling};
 use graph_types::Mode;
-use line_fields::{is_nothing, read_number, rest, word, words};
+use line_fields::{Names, is_nothing, read_number, rest, word, words};
 use std::alloc::Global;
-use line_fields::Names;
 
 /// The word with which a line of the header begins.
 #[derive(Clone, Copy, Debug, PartialEq, Eq)]

@@ -7,8 +7,8 @@ ghost use Rattle.program_grammar.specs.calls.Reading.{AddsFirst, AreNew};
 ghost use Rattle.line_fields.specs.meaning.Names.{most_names};
 
 use graph_types::{LabelId, NoMemory};
-use std::alloc::Global;
 use line_fields::{NameFault, Names};
+use std::alloc::Global;
 
 /// The number of a label after the names and the labels that they lack. A label that is new is put there.
 pub(crate) fn number_of<'t>(

@@ -19,6 +19,3 @@ pub use header::{HeaderReader, HeaderStep, Word};
 pub use limited::{Filter, Matching, Size};
 pub use program::read_program;
 pub use writing::write_program;
-
-#[cfg(test)]
-mod tests;

@@ -3,8 +3,8 @@ ghost use Rattle.graph_types.specs.meaning.Piece.{most_members};
 ghost use Rattle.conditions.specs.meaning.Written.{IsWithinLimits};
 ghost use Rattle.program_grammar.specs.meaning.Sizes.{size_in};
 
-use filter_polarity::Falling;
 use conditions::Cond;
+use filter_polarity::Falling;
 use std::marker::Model;
 
 /// The most members of a piece, 1 to 8. Contracts see the number.

@@ -6,8 +6,8 @@ use crate::fault::ProgramFault;
 use crate::header::{HeaderReader, HeaderStep};
 use filter_polarity::Program;
 use job_io::LineList;
-use std::alloc::Global;
 use line_fields::Names;
+use std::alloc::Global;
 
 /// Reads the program that lines say, up to its `begin`. Labels that the names lack are put after them in the
 /// order in which they stand, at most 1,024. A refusal leaves there those of the lines before. The first line

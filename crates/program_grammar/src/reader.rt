@@ -14,10 +14,9 @@ use crate::token::Token;
 use crate::tokens::Tokens;
 use conditions::Op;
 use graph_types::LabelId;
-use line_fields::is_label;
+use line_fields::{Names, is_label};
 use std::alloc::Global;
 use std::marker::Model;
-use line_fields::Names;
 
 /// A condition that is being read: its tokens from the next one on, the names before it, and the labels in
 /// it that those lack. The names themselves change only once a whole line was read.

@@ -5,13 +5,13 @@ ghost use Rattle.program_grammar.specs.meaning.Programs.{LinesFit, program_said}
 ghost use Rattle.program_grammar.specs.meaning.Text.{cond_text, factor_text, knows_labels, knows_term, label_text, mode_text, op_text, program_text, sum_text, term_text, text_in_place, bound_text};
 
 use crate::header::HeaderReader;
-use filter_polarity::Program;
 use conditions::{Cond, Factor, Op, Term};
+use filter_polarity::Program;
 use graph_types::{LabelId, Mode, NoMemory};
 use itoa::Buffer;
 use job_io::{ByteList, LineList};
-use std::alloc::Global;
 use line_fields::Names;
+use std::alloc::Global;
 
 /// The five lines of a program, with no more parentheses than are needed and one blank between tokens, but none
 /// in a use of a term and none right inside of parentheses. Read with these names they give the program back, and add

@@ -1,8 +1,9 @@
 use Rattle.std.proofs.Common.{ℕ, List, ◌++◌, map, Bor, Ok, Err, refl, sym, ap, subst, ◌∙◌, arith}
 use Rattle.std.proofs.lemmas.Result.{err_from_is_err_and}
+use Rattle.std.proofs.lemmas.Bool.{false_from_ne_true}
 use Rattle.program_grammar.specs.meaning.Header.{filter_of}
 use Rattle.program_grammar.specs.calls.Reading.{AddsFirst}
-use Rattle.program_grammar.proofs.Lines.{filter-fails, filter-not, filter-read, room-read, Answers-starves, Grows-labels, Starves-labels, not-true, length-seen}
+use Rattle.program_grammar.proofs.Lines.{filter-fails, filter-not, filter-read, room-read, Answers-starves, Grows-labels, Starves-labels, length-seen}
 use Rattle.program_grammar.proofs.header.read_filter.Goals as goal
 
 abbrev text : Bor (List ℕ) → List ℕ
@@ -15,7 +16,7 @@ returns-in_err-cond c =
 
 pub returns-in-Err : goal.returns-in-Err
 returns-in-Err c =
-    (filter-not c.args.mode c.args.line.now c.args.names.now c.in_ok-cond.cond _ c.in_ok-cond.ensures.parses (not-true _ c.in-Err.ensures.falls), refl)
+    (filter-not c.args.mode c.args.line.now c.args.names.now c.in_ok-cond.cond _ c.in_ok-cond.ensures.parses (false_from_ne_true _ c.in-Err.ensures.falls), refl)
 
 pub intern_all-requires-clause-room : goal.intern_all-requires-clause-room
 intern_all-requires-clause-room c =

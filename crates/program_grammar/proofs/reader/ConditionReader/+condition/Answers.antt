@@ -1,18 +1,8 @@
-use Rattle.std.proofs.Common.{◌-◌, length, Ok, Err, codes, sym, ap, ◌∙◌, arith}
+use Rattle.std.proofs.Common.{Ok, Err, sym, ap, ◌∙◌}
 use Rattle.std.proofs.lemmas.Result.{err_from_is_err_and}
-use Rattle.conditions.specs.declared.condition.Cond.{Cond}
-use Rattle.conditions.specs.declared.condition.Cond.TheOpen as form
-use Rattle.conditions.specs.declared.condition.Cond.TheViews.{roll-Cond}
-use Rattle.program_grammar.specs.meaning.Token.{word}
-use Rattle.program_grammar.specs.meaning.Grammar.{◌>>=◌, cond_within, conj, neg, nested_within}
-use Rattle.program_grammar.proofs.Chaining.{Reads-err, Reads-refused, conj-first, cond-first, chain_stop, chain_more, chain_fail, neg-opened, neg-full, negated, atom-opened, atom-full, closed, closed-passed, closed-missed}
+use Rattle.program_grammar.specs.meaning.Grammar.{◌>>=◌, cond_within, neg, nested_within}
+use Rattle.program_grammar.proofs.Chaining.{Chained-err, Chained-first, Chained-more, Chained-stop, Reads-err, Reads-refused, conj-first, cond-first, neg-opened, neg-full, negated, atom-opened, atom-full, closed, closed-passed, closed-missed}
 use Rattle.program_grammar.proofs.reader.ConditionReader.+condition.Goals as goal
-
-abbrev and : Cond → Cond → Cond
-and a b = roll-Cond (form.And a b)
-
-abbrev or : Cond → Cond → Cond
-or a b = roll-Cond (form.Or a b)
 
 pub neg-returns-in_err-room-clause-reads : goal.neg-returns-in_err-room-clause-reads
 neg-returns-in_err-room-clause-reads t c =
@@ -63,73 +53,35 @@ atom-returns-then-takes-3-clause-reads t c =
     ∙ closed-passed c.in_ok-cond.cond c.cond.new.self c.expect.new.self c.in_ok-expect.ensures.passed
 
 pub conj-loop-alloc-init : goal.conj-loop-alloc-init
-conj-loop-alloc-init t c = record {
-  turns = length c.neg.new.self.tokens;
-  enough = omega arith;
-  same = conj-first (nested_within c.args.room) c.args.self.now.tokens c.neg.new.self.tokens c.args.self.now.names c.neg.new.self.names c.in_ok-left.left c.in_ok-left.ensures.reads;
-  shorter = c.in_ok-left.ensures.goes_on.shorter;
-  known = c.in_ok-left.ensures.goes_on.known;
-}
+conj-loop-alloc-init t c =
+    Chained-first _ _ _ _ _ _ c.neg.new.self
+    (conj-first (nested_within c.args.room) c.args.self.now.tokens c.neg.new.self.tokens c.args.self.now.names c.neg.new.self.names c.in_ok-left.left c.in_ok-left.ensures.reads) c.in_ok-left.ensures.goes_on
 
 pub conj-returns-in_err-right-clause-reads : goal.conj-returns-in_err-right-clause-reads
 conj-returns-in_err-right-clause-reads t c =
     let p = err_from_is_err_and c.from_residual-in_err-right.result c.from_residual-in_err-right.ensures.1 in
-    let l = c.loop-alloc in
-    Reads-err c.from_residual-in_err-right.result c.in_err-right.field-0.0 c.neg-in-loop-alloc.new.self c.neg-in-loop-alloc.new.self
-    (neg (nested_within c.args.room) c.takes.new.self.tokens c.takes.new.self.names) _ (p.1 ∙ ap Err p.2) c.in_err-right.ensures.reads
-    (λ f read. l.invariant.same ∙ chain_fail (word (codes "and")) and (neg (nested_within c.args.room)) l.invariant.turns l.left l.self c.takes.new.self l.invariant.enough c.loop-alloc-test.ensures f read)
+    Chained-err _ _ _ _ _ _ _ c.loop-alloc.invariant _ c.loop-alloc-test.ensures _ _ c.neg-in-loop-alloc.new.self (p.1 ∙ ap Err p.2) c.in_err-right.ensures.reads
 
 pub conj-loop-alloc-preserved : goal.conj-loop-alloc-preserved
 conj-loop-alloc-preserved t c =
-    let l = c.loop-alloc in
-    let passes = c.loop-alloc-test.ensures in
-    let on = c.in_ok-right.ensures.goes_on in
-    record {
-      turns = l.invariant.turns - 1;
-      enough = omega (arith, l.invariant.enough, passes.shorter, on.shorter);
-      same = l.invariant.same ∙ chain_more (word (codes "and")) and (neg (nested_within c.args.room)) l.invariant.turns l.left l.self c.takes.new.self l.invariant.enough passes
-          c.in_ok-right.right c.in_ok-left-2.left c.neg-in-loop-alloc.new.self c.in_ok-right.ensures.reads c.in_ok-left-2.ensures;
-      shorter = omega (arith, l.invariant.shorter, passes.shorter, on.shorter);
-      known = on.known ∙ passes.known ∙ l.invariant.known;
-    }
+    Chained-more _ _ _ _ _ _ _ c.loop-alloc.invariant _ c.loop-alloc-test.ensures c.in_ok-right.right _ _ c.in_ok-right.ensures.reads c.in_ok-right.ensures.goes_on c.in_ok-left-2.ensures
 
 pub conj-returns-clause-reads : goal.conj-returns-clause-reads
-conj-returns-clause-reads t c =
-    let l = c.loop-alloc in
-    l.invariant.same ∙ chain_stop (word (codes "and")) and (neg (nested_within c.args.room)) l.invariant.turns l.left l.self c.takes.new.self c.loop-alloc-test.ensures
+conj-returns-clause-reads t c = Chained-stop _ _ _ _ _ _ _ c.loop-alloc.invariant _ c.loop-alloc-test.ensures
 
 pub cond-loop-alloc-init : goal.cond-loop-alloc-init
-cond-loop-alloc-init t c = record {
-  turns = length c.conj.new.self.tokens;
-  enough = omega arith;
-  same = cond-first (nested_within c.args.room) c.args.self.now.tokens c.conj.new.self.tokens c.args.self.now.names c.conj.new.self.names c.in_ok-left.left c.in_ok-left.ensures.reads;
-  shorter = c.in_ok-left.ensures.goes_on.shorter;
-  known = c.in_ok-left.ensures.goes_on.known;
-}
+cond-loop-alloc-init t c =
+    Chained-first _ _ _ _ _ _ c.conj.new.self
+    (cond-first (nested_within c.args.room) c.args.self.now.tokens c.conj.new.self.tokens c.args.self.now.names c.conj.new.self.names c.in_ok-left.left c.in_ok-left.ensures.reads) c.in_ok-left.ensures.goes_on
 
 pub cond-returns-in_err-right-clause-reads : goal.cond-returns-in_err-right-clause-reads
 cond-returns-in_err-right-clause-reads t c =
     let p = err_from_is_err_and c.from_residual-in_err-right.result c.from_residual-in_err-right.ensures.1 in
-    let l = c.loop-alloc in
-    Reads-err c.from_residual-in_err-right.result c.in_err-right.field-0.0 c.conj-in-loop-alloc.new.self c.conj-in-loop-alloc.new.self
-    (conj (nested_within c.args.room) c.takes.new.self.tokens c.takes.new.self.names) _ (p.1 ∙ ap Err p.2) c.in_err-right.ensures.reads
-    (λ f read. l.invariant.same ∙ chain_fail (word (codes "or")) or (conj (nested_within c.args.room)) l.invariant.turns l.left l.self c.takes.new.self l.invariant.enough c.loop-alloc-test.ensures f read)
+    Chained-err _ _ _ _ _ _ _ c.loop-alloc.invariant _ c.loop-alloc-test.ensures _ _ c.conj-in-loop-alloc.new.self (p.1 ∙ ap Err p.2) c.in_err-right.ensures.reads
 
 pub cond-loop-alloc-preserved : goal.cond-loop-alloc-preserved
 cond-loop-alloc-preserved t c =
-    let l = c.loop-alloc in
-    let passes = c.loop-alloc-test.ensures in
-    let on = c.in_ok-right.ensures.goes_on in
-    record {
-      turns = l.invariant.turns - 1;
-      enough = omega (arith, l.invariant.enough, passes.shorter, on.shorter);
-      same = l.invariant.same ∙ chain_more (word (codes "or")) or (conj (nested_within c.args.room)) l.invariant.turns l.left l.self c.takes.new.self l.invariant.enough passes
-          c.in_ok-right.right c.in_ok-left-2.left c.conj-in-loop-alloc.new.self c.in_ok-right.ensures.reads c.in_ok-left-2.ensures;
-      shorter = omega (arith, l.invariant.shorter, passes.shorter, on.shorter);
-      known = on.known ∙ passes.known ∙ l.invariant.known;
-    }
+    Chained-more _ _ _ _ _ _ _ c.loop-alloc.invariant _ c.loop-alloc-test.ensures c.in_ok-right.right _ _ c.in_ok-right.ensures.reads c.in_ok-right.ensures.goes_on c.in_ok-left-2.ensures
 
 pub cond-returns-clause-reads : goal.cond-returns-clause-reads
-cond-returns-clause-reads t c =
-    let l = c.loop-alloc in
-    l.invariant.same ∙ chain_stop (word (codes "or")) or (conj (nested_within c.args.room)) l.invariant.turns l.left l.self c.takes.new.self c.loop-alloc-test.ensures
+cond-returns-clause-reads t c = Chained-stop _ _ _ _ _ _ _ c.loop-alloc.invariant _ c.loop-alloc-test.ensures
