@@ -1,10 +1,8 @@
 pub mod BegunLine
 pub mod Lines
 pub mod ListedLine
-pub mod Numbers
 pub mod PieceLines
 pub mod Pieces
-pub mod Sorted
 pub mod Words
 pub mod Written
 pub mod Texts

@@ -3,7 +3,7 @@ use Rattle.std.proofs.Common.{◌≡◌, ℕ, ◌<◌, ◌≤◌, Bool, true, fa
 use Rattle.std.specs.List.{AllByRecursion, list_all, list_any}
 use Rattle.std.specs.List.Sorted.{IsStrictlySortedBy}
 use Rattle.std.specs.Option.{option_map, option_and_then}
-use Rattle.std.specs.Ordering.{is_eq, is_lt, ordering_reverse}
+use Rattle.std.specs.Ordering.{is_eq, is_lt}
 use Rattle.std.specs.declared.cmp.Ordering.TheVariants.{Less}
 use Rattle.std.proofs.lemmas.Bool.{and_parts, and_from, leb-true, le-leb, false≢true}
 use Rattle.std.proofs.lemmas.List.Folds.{list_all-append}
@@ -11,21 +11,24 @@ use Rattle.graph_types.specs.declared.ids.Mode.{Mode}
 use Rattle.graph_types.specs.declared.ids.Mode.TheVariants as mode
 use Rattle.graph_types.specs.declared.member.Member.{Member}
 use Rattle.graph_types.specs.meaning.Orders.{member_cmp_total}
-use Rattle.graph_types.specs.meaning.Piece.{PieceValue, CanJoin, with_joined, is_ascending, member_cmp, member_eq, member_lt, mode_cmp, mode_of, most_members, with_member}
+use Rattle.graph_types.specs.meaning.Piece.{PieceValue, CanJoin, with_joined, member_cmp, member_eq, member_lt, mode_cmp, mode_of, most_members, with_member}
 use Rattle.record_text.specs.meaning.Grammar.{are_alike, member_of, members_said, piece_made, piece_said}
-use Rattle.mining_model.proofs.Ascending.{IsStrictlySortedBy-append, all-weaker}
-use Rattle.record_text.proofs.Sorted.{sorted-parts, sorted-one, all-append_parts, all-below_last, absent_above, sorted_from_ascending, ascending_from_sorted, less}
+use Rattle.graph_types.proofs.Members.{with_member-end}
+use Rattle.shared_lemmas.specs.meaning.Ascending.{is_ascending}
+use Rattle.shared_lemmas.proofs.Ascending.{IsStrictlySortedBy-append, absent_above, all-below_last, ascending_from_sorted, sorted-one, sorted-parts, sorted_from_ascending}
+use Rattle.shared_lemmas.proofs.Claims.{all-append_parts, all-weaker}
+use Rattle.shared_lemmas.proofs.Orderings.{Less-is}
 
 -- a first member and others make this piece
 pub record Makes (m : Member) (members : List Member) (piece : PieceValue) : Type 0 where
   pub alike : list_all (are_alike m) members ≡ true
-  pub ascending : is_ascending (m ∷ members) ≡ true
+  pub ascending : is_ascending member_cmp (m ∷ members) ≡ true
   pub short : length (m ∷ members) ≤ most_members
   pub is : record { mode = mode_of m; members = m ∷ members } ≡ piece
 
 pub Makes-of : (m : Member) (members : List Member) (piece : PieceValue) → piece_made (m ∷ members) ≡ Some piece → Makes m members piece
 Makes-of m members piece made =
-    let tests : Bool = list_all (are_alike m) members && is_ascending (m ∷ members) && leb (length (m ∷ members)) most_members in
+    let tests : Bool = list_all (are_alike m) members && is_ascending member_cmp (m ∷ members) && leb (length (m ∷ members)) most_members in
     let it : PieceValue = record { mode = mode_of m; members = m ∷ members } in
     elim tests as (λ b. tests ≡ b → cond b (Some it) None ≡ Some piece → Makes m members piece) [
       | true ↦ λ pass same.
@@ -50,12 +53,6 @@ pub mode_itself : (k : Mode) → is_eq (mode_cmp k k) ≡ true
 mode_itself mode.Vertex = refl
 mode_itself mode.Edge = refl
 
-with_member-end : (members : List Member) (m : Member) → AllByRecursion (λ x. member_cmp x m ≡ Less) members → with_member members m ≡ members ++ m ∷ []
-with_member-end [] m below = refl
-with_member-end (x ∷ members) m below =
-    let above : is_lt (member_cmp m x) ≡ false = ap is_lt (member_cmp_total.antisymm m x ∙ ap ordering_reverse below.0) in
-    ap (λ b. if b then m ∷ x ∷ members else x ∷ with_member members m) above ∙ ap (λ rest. x ∷ rest) (with_member-end members m below.1)
-
 -- ---- one member more
 
 -- a piece that was read, and its last member
@@ -69,7 +66,7 @@ IsRead-one m = record { made = refl; front = []; ends = refl }
 
 module _ (piece : PieceValue) (last m first : Member) (rest front : List Member) (makes : Makes first rest piece) (ends : first ∷ rest ≡ front ++ last ∷ []) where
   sorted : IsStrictlySortedBy member_cmp (first ∷ rest)
-  sorted = sorted_from_ascending (first ∷ rest) makes.ascending
+  sorted = sorted_from_ascending member_cmp_total (first ∷ rest) makes.ascending
 
   all_below : member_cmp last m ≡ Less → AllByRecursion (λ x. member_cmp x m ≡ Less) (first ∷ rest)
   all_below below =
@@ -78,13 +75,13 @@ module _ (piece : PieceValue) (last m first : Member) (rest front : List Member)
 
   grows : IsTrue (member_lt last m) → CanJoin piece m → Makes first (rest ++ m ∷ []) (with_joined piece m)
   grows above can =
-      let below = all_below (less (member_cmp last m) above) in
+      let below = all_below ((Less-is (member_cmp last m)).0 above) in
       let kind : mode_of m ≡ mode_of first = can.same_mode ∙ ap (λ p. p.mode) (sym makes.is) in
       let alike : are_alike first m ≡ true = ap (λ k. is_eq (mode_cmp (mode_of first) k)) kind ∙ mode_itself (mode_of first) in
       let members : (first ∷ rest) ++ m ∷ [] ≡ with_member piece.members m = sym (with_member-end (first ∷ rest) m below) ∙ ap (λ p. with_member p.members m) makes.is in
       record {
         alike = list_all-append (are_alike first) rest (m ∷ []) ∙ and_from _ _ makes.alike (and_from _ _ alike refl);
-        ascending = ascending_from_sorted ((first ∷ rest) ++ m ∷ []) (IsStrictlySortedBy-append member_cmp (first ∷ rest) (m ∷ []) sorted (sorted-one member_cmp m)
+        ascending = ascending_from_sorted member_cmp ((first ∷ rest) ++ m ∷ []) (IsStrictlySortedBy-append member_cmp (first ∷ rest) (m ∷ []) sorted (sorted-one member_cmp m)
             (all-weaker (λ x. member_cmp x m ≡ Less) (λ x. AllByRecursion (λ y. member_cmp x y ≡ Less) (m ∷ [])) (λ x less. (less, tt)) (first ∷ rest) below));
         short = omega (arith, can.room, ap (λ p. length p.members) makes.is, length-append rest (m ∷ []));
         is = λ i. record { mode = ap (λ p. p.mode) makes.is i; members = members i };
@@ -92,7 +89,7 @@ module _ (piece : PieceValue) (last m first : Member) (rest front : List Member)
 
   joins : (more : List Member) (whole : PieceValue) → Makes first (rest ++ m ∷ more) whole → IsTrue (member_lt last m) × CanJoin piece m
   joins more whole longer =
-      let parts = sorted-parts member_cmp (first ∷ rest) (m ∷ more) (sorted_from_ascending ((first ∷ rest) ++ m ∷ more) longer.ascending) in
+      let parts = sorted-parts member_cmp (first ∷ rest) (m ∷ more) (sorted_from_ascending member_cmp_total ((first ∷ rest) ++ m ∷ more) longer.ascending) in
       let below : AllByRecursion (λ x. member_cmp x m ≡ Less) (first ∷ rest) =
       all-weaker (λ x. AllByRecursion (λ y. member_cmp x y ≡ Less) (m ∷ more)) (λ x. member_cmp x m ≡ Less) (λ x less. less.0) (first ∷ rest) parts.apart in
       let room : length piece.members < most_members = omega (arith, longer.short, ap (λ p. length p.members) makes.is, length-append rest (m ∷ more)) in

@@ -7,9 +7,9 @@ use Rattle.std.proofs.lemmas.Bool.Decides.{nat_tests}
 use Rattle.std.proofs.lemmas.List.Splits.{slice_split_none, slice_split_first, slice_split-cons_no, length-slice_split, join_with_byte-slice_split}
 use Rattle.std.proofs.lemmas.List.{take_all, length-drop}
 use Rattle.std.proofs.lemmas.List.Sums.{fails_before_first}
-use Rattle.line_fields.specs.meaning.Fields.{is_digit, has_bytes, value_after, words_of, trim_start, after_word, skip_words, rest_of, id_of}
+use Rattle.line_fields.specs.meaning.Fields.{is_digit, has_bytes, value_after, words_of, trim_start, after_word, skip_words, rest_of, id_of, is_dash}
 use Rattle.line_fields.proofs.WordsOf.{words_of-trim_start, words_of-first, trim_start-first}
-use Rattle.record_text.specs.meaning.Grammar.{is_dash, edge_of_ends, edge_said, member_of_parts}
+use Rattle.record_text.specs.meaning.Grammar.{edge_of_ends, edge_said, member_of_parts}
 
 -- ---- words
 

@@ -2,6 +2,7 @@
 use Rattle.std.proofs.Common.{◌≡◌, ◌≢◌, ℕ, ◌^◌, ◌<◌, ◌≤◌, Bool, true, false, ◌||◌, leb, lit<, List, [], ◌∷◌, ◌++◌, length, map, All, None, Some, refl, sym, ap, subst, ◌∙◌, arith, append_assoc, append-nil, if◌then◌else◌}
 use Rattle.std.specs.Prelude.{codes, decimal}
 use Rattle.std.specs.List.{AllByRecursion, slice_split, list_all, filter, flat_map}
+use Rattle.std.specs.List.Sorted.{IsStrictlySortedBy}
 use Rattle.std.specs.Option.{option_map, option_and_then}
 use Rattle.std.specs.Ordering.{is_eq}
 use Rattle.std.proofs.Math.Nat.{lt_trans}
@@ -13,17 +14,18 @@ use Rattle.std.proofs.lemmas.List.Splits.{slice_split_none, slice_split_at}
 use Rattle.graph_types.specs.declared.ids.Mode.{Mode}
 use Rattle.graph_types.specs.declared.member.Member.{Member}
 use Rattle.graph_types.specs.declared.member.Member.TheVariants as member
-use Rattle.graph_types.specs.meaning.Piece.{PieceValue, IsPiece, IsOfMode, HasLowerFirst, is_ascending, mode_cmp, mode_of, most_members}
-use Rattle.line_fields.specs.meaning.Fields.{has_bytes, is_blank, is_digit, words_of}
+use Rattle.graph_types.specs.meaning.Piece.{PieceValue, IsPiece, IsOfMode, HasLowerFirst, member_cmp, mode_cmp, mode_of, most_members}
+use Rattle.line_fields.specs.meaning.Fields.{has_bytes, is_blank, is_digit, number_of, words_of, is_dash}
 use Rattle.job_io.specs.meaning.Lines.{HasNoLf, cr, lf, without_cr}
+use Rattle.line_fields.proofs.Decimals.{digits-decimal, has_bytes-decimal, id_of-decimal, number_of-decimal}
 use Rattle.record_text.specs.meaning.Text.{done_text, member_text, record_line, after_space}
 use Rattle.record_text.specs.declared.read.RecordLine.{RecordLine}
 use Rattle.record_text.specs.declared.read.RecordLine.TheVariants.{Rem, Add, Done}
-use Rattle.record_text.specs.meaning.Grammar.{are_alike, edge_of_ends, is_dash, line_said, member_of, member_of_parts, members_said, piece_made, piece_said, record_of}
+use Rattle.record_text.specs.meaning.Grammar.{are_alike, edge_of_ends, line_said, member_of, member_of_parts, members_said, piece_made, piece_said, record_of}
 use Rattle.record_text.specs.meaning.Writable.{HasShortIds, IsStamp, IsWritable}
-use Rattle.record_text.proofs.Numbers.{digits-decimal, has_bytes-decimal, id_of-decimal, number_of-decimal}
 use Rattle.record_text.proofs.Pieces.{Makes, piece_made-of, mode_itself}
 use Rattle.record_text.proofs.Words.{slice_split-digits}
+use Rattle.shared_lemmas.proofs.Ascending.{ascending_from_sorted}
 
 -- ---- words parted by spaces
 
@@ -177,7 +179,7 @@ makes_itself m members piece sound is =
     let alike = subst (AllByRecursion (IsOfMode piece.mode)) is (recursion_from_All (IsOfMode piece.mode) piece.members sound.of_mode) in
     record {
       alike = alike_all m piece.mode members alike.0 alike.1;
-      ascending = ap is_ascending (sym is) ∙ sound.ascending;
+      ascending = ascending_from_sorted member_cmp (m ∷ members) (subst (IsStrictlySortedBy member_cmp) is sound.ascending);
       short = subst (λ ms. length ms ≤ most_members) is sound.room;
       is = λ i. record { mode = alike.0 i; members = sym is i };
     }
@@ -195,6 +197,9 @@ piece_said-texts m members piece can is =
 pub record IsWritten (line : List ℕ) (said : RecordLine) : Type 0 where
   pub reads : record_of line ≡ Some said
   pub printed : list_all is_printed line ≡ true
+
+stamp_read : (t : ℕ) → t < 2 ^ 64 → number_of 20 (decimal t) ≡ Some t
+stamp_read t fits = number_of-decimal 20 t (lit< tt) (lt_trans fits (lit< tt)) fits
 
 record_words : (word : List ℕ) (t : ℕ) (members : List Member) → record_line word t members ≡ spread word (decimal t ∷ map member_text members) ++ codes "\n"
 record_words word t members =
@@ -224,18 +229,18 @@ pub rem_written : (t : ℕ) (piece : PieceValue) (line : List ℕ) → IsStamp t
 rem_written t piece line fits can is_line =
     record_written (codes "REM") t piece line (Rem t piece) (record { some = refl; graphic = refl }) fits can is_line
     (λ m members is.
-    ap (λ o. option_and_then (λ t. option_map (λ piece. Rem t piece) (piece_said (map member_text (m ∷ members)))) o) (number_of-decimal t fits)
+    ap (λ o. option_and_then (λ t. option_map (λ piece. Rem t piece) (piece_said (map member_text (m ∷ members)))) o) (stamp_read t fits)
     ∙ ap (option_map (λ piece. Rem t piece)) (piece_said-texts m members piece can is))
 
 pub new_written : (t : ℕ) (piece : PieceValue) (line : List ℕ) → IsStamp t → IsWritable piece → line ++ codes "\n" ≡ record_line (codes "NEW") t piece.members → IsWritten line (Add t piece)
 new_written t piece line fits can is_line =
     record_written (codes "NEW") t piece line (Add t piece) (record { some = refl; graphic = refl }) fits can is_line
     (λ m members is.
-    ap (λ o. option_and_then (λ t. option_map (λ piece. Add t piece) (piece_said (map member_text (m ∷ members)))) o) (number_of-decimal t fits)
+    ap (λ o. option_and_then (λ t. option_map (λ piece. Add t piece) (piece_said (map member_text (m ∷ members)))) o) (stamp_read t fits)
     ∙ ap (option_map (λ piece. Add t piece)) (piece_said-texts m members piece can is))
 
 pub done_written : (t : ℕ) (line : List ℕ) → IsStamp t → line ++ codes "\n" ≡ done_text t → IsWritten line (Done t)
 done_written t line fits is_line =
     written (codes "DONE") (decimal t ∷ []) line (Done t) (record { some = refl; graphic = refl }) (IsWord-decimal t fits, tt)
     (append_cancel_right line (spread (codes "DONE") (decimal t ∷ [])) (codes "\n") (is_line ∙ ap (λ text. codes "DONE " ++ text ++ codes "\n") (sym (append-nil (decimal t)))))
-    (ap (option_map (λ t. Done t)) (number_of-decimal t fits))
+    (ap (option_map (λ t. Done t)) (stamp_read t fits))

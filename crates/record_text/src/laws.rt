@@ -1,8 +1,7 @@
 //! Laws about records as text: each is the contract of a function that does nothing.
 
 ghost use Rattle.std.specs.Prelude.{◌≡◌, ◌++◌, ℕ, List, Some, codes, length};
-ghost use Rattle.graph_types.specs.meaning.Graph.{empty_graph};
-ghost use Rattle.graph_types.specs.declared.update.Update.{Update};
+ghost use Rattle.graph_types.specs.meaning.Graph.{Graph};
 ghost use Rattle.mining_model.specs.meaning.Embeddings.{Pattern};
 ghost use Rattle.graph_types.specs.meaning.Piece.{PieceValue};
 ghost use Rattle.record_text.specs.meaning.Text.{done_text, record_line, text_from, text_upto};
@@ -21,8 +20,8 @@ pub fn reads_what_is_written()
         line ++ codes "\n" ≡ done_text t → record_of line ≡ Some (Done t) }
 {}
 
-/// The text of some updates, made one after another, is that of timestamps 1 to their number.
+/// The text of a history, made one graph after another, is that of timestamps 1 to their number.
 pub fn text_of_each_timestamp()
-    ensures { (pattern : Pattern) (us : List Update) →
-        text_from pattern empty_graph 0 us ≡ text_upto pattern us (length us) }
+    ensures { (pattern : Pattern) (first : Graph) (later : List Graph) →
+        text_from pattern first 0 later ≡ text_upto pattern first later (length later) }
 {}

@@ -5,8 +5,6 @@
 pub mod laws;
 mod line;
 mod read;
-#[cfg(test)]
-mod tests;
 mod write;
 
 pub use read::{BadRecord, RecordLine, read_record};

@@ -1,8 +1,8 @@
 ghost use Rattle.std.specs.Prelude.{◌≡◌, ◌∷◌, [], IsTrue, MatchOption, MatchResult, Some, SomeIff, position};
 ghost use Rattle.std.specs.List.{slice_split};
 ghost use Rattle.graph_types.specs.meaning.Piece.{CanJoin, with_joined, member_lt, mode_of};
-ghost use Rattle.line_fields.specs.meaning.Fields.{words_of};
-ghost use Rattle.record_text.specs.meaning.Grammar.{edge_said, is_dash, member_of, piece_said, record_of, record_said};
+ghost use Rattle.line_fields.specs.meaning.Fields.{words_of, is_dash};
+ghost use Rattle.record_text.specs.meaning.Grammar.{edge_said, member_of, piece_said, record_of, record_said};
 
 use graph_types::{Edge, Member, Mode, Piece, Stamp};
 use line_fields::{is_nothing, read_id, read_number, rest, word};

@@ -21,8 +21,8 @@ pub fn write_delta<O: Sink>(
         (delta_text t (members_of_all rem.now) (members_of_all add.now)) result }
     ensures cause { HasCause (O.faults out.old) (O.faults out.new) result }
 {
-    write_records(out, page, b"REM", t, rem.as_slice())?;
-    write_records(out, page, b"NEW", t, add.as_slice())
+    write_records(out, page, b"REM", t, rem)?;
+    write_records(out, page, b"NEW", t, add)
 }
 
 /// Writes the line that closes a timestamp. What the page still holds is not out yet. Takes no
@@ -32,7 +32,7 @@ pub fn write_done<O: Sink>(out: &mut O, page: &mut Page, t: Stamp) -> Result<(),
         (done_text t) result }
     ensures cause { HasCause (O.faults out.old) (O.faults out.new) result }
 {
-    page.put(out, done(t).as_slice())
+    page.put(out, &done(t))
 }
 
 /// Writes the pieces, each on a line of its own. What the page still holds is not out yet. Takes no
@@ -46,7 +46,7 @@ pub fn write_listing<O: Sink>(
         (listing_text (members_of_all pieces.now)) result }
     ensures cause { HasCause (O.faults out.old) (O.faults out.new) result }
 {
-    write_lines(out, page, pieces.as_slice())
+    write_lines(out, page, pieces)
 }
 
 fn write_lines<O: Sink>(out: &mut O, page: &mut Page, pieces: &[Piece]) -> Result<(), WriteFault>
@@ -55,7 +55,7 @@ fn write_lines<O: Sink>(out: &mut O, page: &mut Page, pieces: &[Piece]) -> Resul
     ensures cause { HasCause (O.faults out.old) (O.faults out.new) result }
 {
     for piece in pieces {
-        page.put(out, listed(piece).as_slice())?;
+        page.put(out, &listed(piece))?;
     }
     Ok(())
 }
@@ -72,7 +72,7 @@ fn write_records<O: Sink>(
     ensures cause { HasCause (O.faults out.old) (O.faults out.new) result }
 {
     for piece in pieces {
-        page.put(out, record(word, t, piece).as_slice())?;
+        page.put(out, &record(word, t, piece))?;
     }
     Ok(())
 }

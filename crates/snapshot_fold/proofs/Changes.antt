@@ -17,12 +17,14 @@ use Rattle.graph_types.specs.meaning.Orders.{piece_cmp_total}
 use Rattle.graph_types.specs.meaning.Piece.{PieceValue, member_cmp, mode_cmp, piece_cmp}
 use Rattle.graph_types.proofs.Members.{member_cmp-IsAntisymmetric, piece_cmp-IsAntisymmetric}
 use Rattle.mining_model.specs.meaning.Changes.{same_members, difference}
-use Rattle.mining_model.proofs.Ascending.{IsStrictlySortedBy-map, all-map}
 use Rattle.snapshot_fold.specs.meaning.Pieces.{has_piece, is_same_piece, with_piece, without_piece}
 use Rattle.snapshot_fold.specs.meaning.Records.{pieces_of}
-use Rattle.snapshot_fold.proofs.Ascending.{among-insert_key, among-remove_key, is_tie, same_list, sorted-insert_key, sorted-remove_key}
-use Rattle.snapshot_fold.proofs.Each.{all-found, all-kept, all-map-filter}
 use Rattle.snapshot_fold.proofs.Undone.{Ascends}
+use Rattle.shared_lemmas.proofs.Ascending.{IsStrictlySortedBy-map}
+use Rattle.shared_lemmas.proofs.Booleans.{or_last}
+use Rattle.shared_lemmas.proofs.Claims.{all-found, all-kept, all-map, all-map-filter}
+use Rattle.shared_lemmas.proofs.Orderings.{same_item}
+use Rattle.shared_lemmas.proofs.Sets.{among-insert_key, among-remove_key, same_list, sorted-insert_key, sorted-remove_key}
 
 -- ---- pieces one after another
 
@@ -59,11 +61,6 @@ not_either true true c = refl
 not_either true false c = refl
 not_either false b c = refl
 
-either : (a b c : Bool) → (b || (a || c)) ≡ ((a || b) || c)
-either true true c = refl
-either true false c = refl
-either false b c = refl
-
 pub among-without_all : (held pieces : List PieceValue) (q : PieceValue) → Ascends held → has_piece (without_all held pieces) q ≡ (not (has_piece pieces q) && has_piece held q)
 among-without_all held [] q s = refl
 among-without_all held (p ∷ pieces) q s =
@@ -76,7 +73,7 @@ among-with_all held [] q = refl
 among-with_all held (p ∷ pieces) q =
     among-with_all (with_piece held p) pieces q
     ∙ ap (λ b. has_piece pieces q || b) (among-with held p q)
-    ∙ either (is_same_piece q p) (has_piece pieces q) (has_piece held q)
+    ∙ or_last (is_same_piece q p) (has_piece pieces q) (has_piece held q)
 
 -- ---- pieces of one mode
 
@@ -111,7 +108,7 @@ module _ (kind : Mode) where
   among-left : (members : List Member) (lists others : List (List Member)) → list_any (same_members members) (difference lists others) ≡ (not (list_any (same_members members) others) && list_any (same_members members) lists)
   among-left members lists others =
       any-filter_same (same_members members) (λ p. not (list_any (same_members p) others)) (not (list_any (same_members members) others))
-      (λ p tied. ap (λ x. not (list_any (same_members x) others)) (sym (slice_cmp-IsAntisymmetric member_cmp-IsAntisymmetric members p (is_tie _ tied)))) lists
+      (λ p tied. ap (λ x. not (list_any (same_members x) others)) (sym (same_item (slice_cmp-IsAntisymmetric member_cmp-IsAntisymmetric) members p tied))) lists
 
   changed : (m a b : Bool) → ((m && (not a && b)) || (not (m && (not b && a)) && (m && a))) ≡ (m && b)
   changed false a b = refl

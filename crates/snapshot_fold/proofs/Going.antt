@@ -6,6 +6,7 @@ use Rattle.std.specs.Prelude.{IfOk}
 use Rattle.std.proofs.lemmas.Bool.{eqb-false}
 use Rattle.graph_types.specs.meaning.Piece.{PieceValue}
 use Rattle.job_io.specs.calls.Ends.{BothKnown}
+use Rattle.job_io.proofs.Known.{BothKnown-map, BothKnown-same, BothKnown-then}
 use Rattle.job_io.specs.meaning.Lines.{lf, HasNoLf, Line, Reading, lines_of, whole_lines_of, line_text}
 use Rattle.job_io.specs.meaning.Lines.{GivesLine, StopsInLine}
 use Rattle.job_io.proofs.LinesOf.{whole_lines_of-whole, whole_lines_of-none}
@@ -17,7 +18,6 @@ use Rattle.snapshot_fold.specs.meaning.Folding.{last_done_from, last_done}
 use Rattle.snapshot_fold.specs.calls.Folds.{IsToCome, IsUnended, FoldsRecords, AreTold}
 use Rattle.snapshot_fold.specs.calls.Reading.{IsOutcome, LeadsOn, LinesComeTo, TakesLine}
 use Rattle.snapshot_fold.proofs.Judging.{Moves, stays, rises, one_line-says, line-closes}
-use Rattle.snapshot_fold.proofs.Known.{BothKnown-same, BothKnown-then, BothKnown-map}
 use Rattle.snapshot_fold.proofs.Told.{folded_from-reached, folded_from-cons, rest_from, told}
 
 -- the timestamp that is named, if one is, is not below the last that is done

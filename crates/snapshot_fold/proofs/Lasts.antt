@@ -7,8 +7,8 @@ use Rattle.std.specs.declared.cmp.Ordering.TheVariants.{Less}
 use Rattle.std.proofs.lemmas.Bool.{false≢true}
 use Rattle.graph_types.specs.meaning.Orders.{piece_cmp_total}
 use Rattle.graph_types.specs.meaning.Piece.{PieceValue, piece_cmp}
-use Rattle.record_text.proofs.Sorted.{less}
 use Rattle.snapshot_fold.specs.meaning.Pieces.{is_above, last_of}
+use Rattle.shared_lemmas.proofs.Orderings.{Less-is}
 
 pub last_of-push : (pieces : List PieceValue) (p : PieceValue) → last_of (pieces ++ p ∷ []) ≡ Some p
 last_of-push [] p = refl
@@ -36,7 +36,7 @@ some_last (q ∷ r ∷ pieces) some = some_last (r ∷ pieces) (λ e. cc)
 pub all_below_next : (pieces : List PieceValue) (p : PieceValue) → IsStrictlySortedBy piece_cmp pieces → is_above (last_of pieces) p ≡ true → AllByRecursion (λ q. piece_cmp q p ≡ Less) pieces
 unfolding IsStrictlySortedBy
 all_below_next [] p s above = tt
-all_below_next (q ∷ []) p s above = (less (piece_cmp q p) above, tt)
+all_below_next (q ∷ []) p s above = ((Less-is (piece_cmp q p)).0 above, tt)
 all_below_next (q ∷ r ∷ pieces) p s above =
     let rest = all_below_next (r ∷ pieces) p s.1 above in
     (piece_cmp_total.trans q r p s.0.0 rest.0, rest)

@@ -1,14 +1,14 @@
-pub mod Ascending
 pub mod Changes
-pub mod Each
 pub mod Embedded
 pub mod Lasts
 pub mod Snapshots
 pub mod Steps
+pub mod Saying
+pub mod Prefixes
+pub mod Accepting
 pub mod Telling
 pub mod Undone
 pub mod Worked
-pub mod Known
 pub mod Judging
 pub mod Told
 pub mod Going

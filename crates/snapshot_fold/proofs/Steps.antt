@@ -7,19 +7,21 @@ use Rattle.std.specs.Result.{is_err}
 use Rattle.std.specs.declared.cmp.Ordering.TheVariants.{Less}
 use Rattle.std.proofs.lemmas.Bool.{true≢false, or_cases, or_left, or_right}
 use Rattle.std.proofs.lemmas.List.Folds.{list_any-append}
+use Rattle.std.proofs.Math.Bool.{or-false}
 use Rattle.graph_types.specs.declared.ids.Mode.{Mode}
 use Rattle.graph_types.specs.meaning.Orders.{piece_cmp_total}
 use Rattle.graph_types.specs.meaning.Piece.{PieceValue, piece_cmp}
 use Rattle.graph_types.proofs.Members.{piece_cmp-IsAntisymmetric}
-use Rattle.mining_model.proofs.Ascending.{IsStrictlySortedBy-append, all-weaker}
-use Rattle.record_text.proofs.Sorted.{sorted-one}
 use Rattle.snapshot_fold.specs.meaning.FoldState.{FoldState}
 use Rattle.snapshot_fold.specs.meaning.Pieces.{is_above, has_piece, is_same_piece, last_of, with_piece, without_piece}
 use Rattle.snapshot_fold.specs.meaning.Taking.{after_done, after_new, after_rem}
 use Rattle.snapshot_fold.specs.storage.Undone.{IsOpen, pieces_before_open}
-use Rattle.snapshot_fold.proofs.Ascending.{among-insert_key, among-remove_key, same_item, same_list, sorted-insert_key, sorted-remove_key}
 use Rattle.snapshot_fold.proofs.Lasts.{all_below_next, last_of-push, no_last}
-use Rattle.snapshot_fold.proofs.Undone.{Ascends, among-undone, or_false, undone-ascends}
+use Rattle.snapshot_fold.proofs.Undone.{Ascends, among-undone, undone-ascends}
+use Rattle.shared_lemmas.proofs.Ascending.{IsStrictlySortedBy-append, sorted-one}
+use Rattle.shared_lemmas.proofs.Claims.{all-weaker}
+use Rattle.shared_lemmas.proofs.Orderings.{same_item}
+use Rattle.shared_lemmas.proofs.Sets.{among-insert_key, among-remove_key, same_list, sorted-insert_key, sorted-remove_key}
 
 ascends-push : (pieces : List PieceValue) (p : PieceValue) → Ascends pieces → is_above (last_of pieces) p ≡ true → Ascends (pieces ++ p ∷ [])
 ascends-push pieces p s above =
@@ -27,10 +29,10 @@ ascends-push pieces p s above =
     (all-weaker (λ q. piece_cmp q p ≡ Less) (λ q. AllByRecursion (λ r. piece_cmp q r ≡ Less) (p ∷ [])) (λ q less. (less, tt)) pieces (all_below_next pieces p s above))
 
 among-push : (pieces : List PieceValue) (p q : PieceValue) → has_piece (pieces ++ p ∷ []) q ≡ (has_piece pieces q || is_same_piece q p)
-among-push pieces p q = list_any-append (is_same_piece q) pieces (p ∷ []) ∙ ap (λ b. has_piece pieces q || b) (or_false (is_same_piece q p))
+among-push pieces p q = list_any-append (is_same_piece q) pieces (p ∷ []) ∙ ap (λ b. has_piece pieces q || b) (or-false (is_same_piece q p))
 
 tied : (p q : PieceValue) (pieces : List PieceValue) (b : Bool) → has_piece pieces p ≡ b → is_same_piece q p ≡ true → has_piece pieces q ≡ b
-tied p q pieces b is t = ap (has_piece pieces) (same_item piece_cmp_total piece_cmp-IsAntisymmetric q p t) ∙ is
+tied p q pieces b is t = ap (has_piece pieces) (same_item piece_cmp-IsAntisymmetric q p t) ∙ is
 
 -- what holds of each success holds where no error came
 pub on_ok : {T E P : Type 0} (r : Result T E) → is_err r ≡ false → OnOk r P → P
@@ -61,7 +63,7 @@ module _ (held went : List PieceValue) (p : PieceValue) (kept : IsOpen held went
     came_held = λ q found. absurd (true≢false (sym found));
     went_away = λ q away stays.
         let left = was_held (is_same_piece q p) (has_piece held q) (sym (left_among q) ∙ stays) in
-        let before : has_piece went q ≡ true = sym (or_false (has_piece went q)) ∙ ap (λ b. has_piece went q || b) (sym left.0) ∙ sym (among-push went p q) ∙ away in
+        let before : has_piece went q ≡ true = sym (or-false (has_piece went q)) ∙ ap (λ b. has_piece went q || b) (sym left.0) ∙ sym (among-push went p q) ∙ away in
         kept.went_away q before left.1;
   }
 
@@ -188,7 +190,3 @@ module _ (s : FoldState) (mode : Option Mode) (done : ℕ) (held went came : Lis
     last_rem = None;
     last_new = None;
   }
-
-pub not_there : (b : Bool) → true ≡ not b → b ≡ false
-not_there true new = absurd (true≢false new)
-not_there false new = refl

@@ -4,11 +4,12 @@ use Rattle.std.proofs.Common.{List, [], ◌∷◌, ◌++◌, Option, Ok, Err}
 use Rattle.std.proofs.Common.{refl, sym, ap, ◌∙◌, subst, arith}
 use Rattle.std.specs.Bool.{OnTrue}
 use Rattle.job_io.specs.calls.Ends.{BothKnown}
+use Rattle.job_io.proofs.Known.{BothKnown-map}
 use Rattle.job_io.specs.meaning.Lines.{Line, Reading, lines_of, without_cr, FitsLine, GivesLine, GivesEnd}
 use Rattle.job_io.specs.calls.Reading.{ReadsNext}
 use Rattle.job_io.specs.declared.line_reader.LineFault.{LineFault}
 use Rattle.job_io.specs.declared.line_reader.LineFault.TheVariants as line
-use Rattle.job_io.proofs.LinesOf.{lines_of-unfinished}
+use Rattle.job_io.proofs.LinesOf.{lines_of-unfinished, some_line}
 use Rattle.record_text.specs.meaning.Grammar.{record_of}
 use Rattle.snapshot_fold.specs.declared.folding.FoldStop.{FoldStop}
 use Rattle.snapshot_fold.specs.declared.folding.FoldStop.TheVariants as stop
@@ -16,7 +17,6 @@ use Rattle.snapshot_fold.specs.meaning.FoldState.{FoldState}
 use Rattle.snapshot_fold.specs.meaning.Folding.{state_after_content, state_after_one_line, outcome_at_end, outcome_after, fold_outcome_from}
 use Rattle.snapshot_fold.specs.calls.Reading.{stop_of, IsStopOf, LinesComeTo, TakesLine}
 use Rattle.snapshot_fold.proofs.Judging.{one_line-short, one_line-long, one_line-many}
-use Rattle.snapshot_fold.proofs.Known.{BothKnown-map, some_line}
 use Rattle.snapshot_fold.proofs.Told.{folded_from-cons, rest_from}
 
 -- The reader gave the next line.
@@ -34,11 +34,6 @@ pub GivesNext-from : (old new : Reading) (was is : Option (List ℕ)) (given : B
 GivesNext-from old new was is true so nexts fits counted live same_most few =
     record { gives = nexts; fits = fits; counted = counted; few = few; same_most = same_most; live = live }
 GivesNext-from old new was is false so nexts fits counted live same_most few = cc
-
-pub both_true : (given whole : Bool) → (given && whole) ≡ true → (given ≡ true) × (whole ≡ true)
-both_true true true both = (refl, refl)
-both_true true false both = cc
-both_true false whole both = cc
 
 module _ (old : Reading) (s : FoldState) (to_come : List ℕ) where
   -- the next line stops the fold
@@ -104,17 +99,17 @@ module _ (old new : Reading) (s behind : FoldState) (was is : Option (List ℕ))
           (kept ∙ ap (λ w. cond w (state_after_content (suc old.number) s (record_of (without_cr new.line.bytes))) (Ok s)) torn)),
     )
 
-    module _ (whole : new.line.whole ≡ true) (n : ℕ) (bytes : List ℕ) (n_is : n ≡ new.number) (bytes_is : bytes ≡ new.line.bytes) where
+    module _ (whole : new.line.whole ≡ true) (n : ℕ) (bytes : List ℕ) (n_is : n ≡ new.number) (bytes_is : bytes ≡ without_cr new.line.bytes) where
       -- what the line says decides
-      says : state_after_one_line old.most (suc old.number) s new.line ≡ state_after_content n s (record_of (without_cr bytes))
+      says : state_after_one_line old.most (suc old.number) s new.line ≡ state_after_content n s (record_of bytes)
       says =
           let number : suc old.number ≡ n = omega (arith, n_is, next.counted) in
           kept
           ∙ ap (λ w. cond w (state_after_content (suc old.number) s (record_of (without_cr new.line.bytes))) (Ok s)) whole
           ∙ ap (λ n. state_after_content n s (record_of (without_cr new.line.bytes))) number
-          ∙ ap (λ bytes. state_after_content n s (record_of (without_cr bytes))) (sym bytes_is)
+          ∙ ap (λ bytes. state_after_content n s (record_of bytes)) (sym bytes_is)
 
-      pub Takes-line : state_after_content n s (record_of (without_cr bytes)) ≡ Ok behind → TakesLine old new s behind was is (Ok true)
+      pub Takes-line : state_after_content n s (record_of bytes) ≡ Ok behind → TakesLine old new s behind was is (Ok true)
       Takes-line led = (
         next.gives,
         record {
@@ -128,12 +123,12 @@ module _ (old new : Reading) (s behind : FoldState) (was is : Option (List ℕ))
         },
       )
 
-      stopped : (why : FoldStop) → state_after_content n s (record_of (without_cr bytes)) ≡ Err why →
+      stopped : (why : FoldStop) → state_after_content n s (record_of bytes) ≡ Err why →
           BothKnown was is (λ was is. LinesComeTo old s (old.held ++ was) (λ a. Err why))
       stopped why is_why = BothKnown-map _ _ was is next.gives (λ was is line.
           comes_to_stop old s (old.held ++ was) new.line (lines_of (new.held ++ is)) why line.lines (says ∙ is_why))
 
-      takes_stop : (why : FoldStop) → why ≢ stop.ReadFault → state_after_content n s (record_of (without_cr bytes)) ≡ Err why →
+      takes_stop : (why : FoldStop) → why ≢ stop.ReadFault → state_after_content n s (record_of bytes) ≡ Err why →
           TakesLine old new s behind was is (Err why)
       takes_stop stop.NoMemory judged is_why = tt
       takes_stop stop.ReadFault judged is_why = absurd (judged refl)
@@ -147,7 +142,7 @@ module _ (old new : Reading) (s behind : FoldState) (was is : Option (List ℕ))
       takes_stop (stop.TooMany n) judged is_why = stopped (stop.TooMany n) is_why
 
       -- the line is refused
-      pub Takes-stop : (why : FoldStop) → why ≢ stop.ReadFault → IsStopOf (state_after_content n s (record_of (without_cr bytes))) why →
+      pub Takes-stop : (why : FoldStop) → why ≢ stop.ReadFault → IsStopOf (state_after_content n s (record_of bytes)) why →
           TakesLine old new s behind was is (Err why)
       Takes-stop why judged (inl is_why) = takes_stop why judged is_why
       Takes-stop why judged (inr starved) = subst (λ why. TakesLine old new s behind was is (Err why)) (sym starved) tt

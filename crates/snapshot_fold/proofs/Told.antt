@@ -9,13 +9,14 @@ use Rattle.graph_types.specs.meaning.Piece.{PieceValue}
 use Rattle.job_io.specs.meaning.Lines.{Line, lines_of, whole_lines_of}
 use Rattle.snapshot_fold.specs.declared.folding.FoldStop.{FoldStop}
 use Rattle.snapshot_fold.specs.declared.folding.FoldStop.TheVariants as stop
+use Rattle.snapshot_fold.specs.meaning.Accepted.{state_after_lines}
 use Rattle.snapshot_fold.specs.meaning.FoldState.{FoldState, empty_fold}
 use Rattle.snapshot_fold.specs.meaning.FoldText.{state_after_line, pieces_where_done, fold_text}
 use Rattle.snapshot_fold.specs.meaning.Folding.{state_after_one_line, is_reached, outcome_at_end, outcome_after, fold_outcome_from, fold_outcome}
-use Rattle.snapshot_fold.specs.meaning.Folding.{last_done_from, last_done}
+use Rattle.snapshot_fold.specs.meaning.Folding.{last_done}
 use Rattle.snapshot_fold.specs.calls.Folds.{stamp_folded}
-use Rattle.snapshot_fold.proofs.Judging.{Moves, stays, rises, SaysRecord, one_line-says, one_line-torn}
-use Rattle.snapshot_fold.proofs.Judging.{behind_line-is, line-closes}
+use Rattle.snapshot_fold.proofs.Judging.{behind_line-is, one_line-says, one_line-torn}
+use Rattle.snapshot_fold.proofs.Prefixes.{last_done-accepted, settles}
 
 abbrev Outcome : Type 0
 Outcome = Result (List PieceValue) FoldStop
@@ -96,70 +97,37 @@ told_at most n t s (line ∷ lines) pieces later so =
 
 -- ---- at the last timestamp that is done
 
--- no timestamp more is done, or the pieces are told at the last one
-abbrev ToldLast : FoldState → List Line → List PieceValue → Type 0
-ToldLast s lines pieces =
-    ((last_done_from s.done lines ≡ s.done) × (s.settled ≡ pieces))
-    ⊎ ((s.done < last_done_from s.done lines) × (pieces_where_done s lines (last_done_from s.done lines) ≡ Some pieces))
-
-module _ (s behind : FoldState) (line : Line) (lines : List Line) (pieces : List PieceValue)
-    (says : SaysRecord s behind line) where
-  last_is : last_done_from s.done (line ∷ lines) ≡ last_done_from behind.done lines
-  last_is = ap (λ t. last_done_from t lines) (line-closes s behind line says).0
-
-  told_there : (t : ℕ) → last_done_from behind.done lines ≡ t → eqb behind.done t ≡ true → behind.settled ≡ pieces →
-      s.done < t → ToldLast s (line ∷ lines) pieces
-  told_there t last here same above =
-      inr (
-        subst (λ u. s.done < u) (sym (last_is ∙ last)) above,
-        ap (pieces_where_done s (line ∷ lines)) (last_is ∙ last)
-            ∙ pieces_where_done-cons s behind line lines t (behind_line-is s behind line says)
-            ∙ ap (λ b. cond b (Some behind.settled) (pieces_where_done behind lines t)) here
-            ∙ ap Some same,
-      )
-
-  told_later : s.done ≤ behind.done → behind.done < last_done_from behind.done lines →
-      pieces_where_done behind lines (last_done_from behind.done lines) ≡ Some pieces → ToldLast s (line ∷ lines) pieces
-  told_later near above told =
-      let t = last_done_from behind.done lines in
-      inr (
-        subst (λ u. s.done < u) (sym last_is) (omega (arith, near, above)),
-        ap (pieces_where_done s (line ∷ lines)) last_is
-            ∙ pieces_where_done-cons s behind line lines t (behind_line-is s behind line says)
-            ∙ ap (λ b. cond b (Some behind.settled) (pieces_where_done behind lines t))
-            (ne_eqb behind.done t (λ e. omega (arith, above, e)))
-            ∙ told,
-      )
-
-  told_behind : Moves s behind → ToldLast behind lines pieces → ToldLast s (line ∷ lines) pieces
-  told_behind (stays done settled) (inl last) =
-      inl (last_is ∙ last.0 ∙ done, sym settled ∙ last.1)
-  told_behind (stays done settled) (inr later) =
-      told_later (omega (arith, done)) later.0 later.1
-  told_behind (rises done) (inl last) =
-      told_there behind.done last.0 (eq-eqb behind.done behind.done refl) last.1 (omega (arith, done))
-  told_behind (rises done) (inr later) =
-      told_later (omega (arith, done)) later.0 later.1
+-- The whole lines are taken, and these are the pieces after them.
+record Takes (s : FoldState) (lines : List Line) (pieces : List PieceValue) : Type 0 where
+  end : FoldState
+  accepted : state_after_lines s lines ≡ Some end
+  settled_is : end.settled ≡ pieces
 
 module _ (most : ℕ) (line : Line) (lines : List Line) (pieces : List PieceValue)
-    (behind_tells : (m : ℕ) (b : FoldState) → fold_outcome_from most None m b lines ≡ Ok pieces → ToldLast b (wholes lines) pieces) where
-  last_line : (n : ℕ) (s : FoldState) → (w : Bool) → line.whole ≡ w →
+    (takes_rest : (m : ℕ) (b : FoldState) → fold_outcome_from most None m b lines ≡ Ok pieces → Takes b (wholes lines) pieces) where
+  takes_line : (n : ℕ) (s : FoldState) → (w : Bool) → line.whole ≡ w →
       LedOn (state_after_one_line most (suc n) s line) (rest_from most None n line lines) (Ok pieces) →
-      ToldLast s (cond w (line ∷ wholes lines) (wholes lines)) pieces
-  last_line n s true whole led =
-      let says = one_line-says most (suc n) s line led.behind whole led.led_is in
-      told_behind s led.behind line (wholes lines) pieces says (line-closes s led.behind line says).1
-      (behind_tells (cond line.whole (suc n) n) led.behind led.rest_is)
-  last_line n s false torn led =
+      Takes s (cond w (line ∷ wholes lines) (wholes lines)) pieces
+  takes_line n s true whole led =
+      let rest = takes_rest (cond line.whole (suc n) n) led.behind led.rest_is in
+      record {
+        end = rest.end;
+        accepted =
+            ap (option_and_then (λ b. state_after_lines b (wholes lines)))
+            (behind_line-is s led.behind line (one_line-says most (suc n) s line led.behind whole led.led_is))
+            ∙ rest.accepted;
+        settled_is = rest.settled_is;
+      }
+  takes_line n s false torn led =
       let same : s ≡ led.behind = one_line-torn most (suc n) s line led.behind torn led.led_is in
-      behind_tells (cond line.whole (suc n) n) s
+      takes_rest (cond line.whole (suc n) n) s
       (ap (λ b. fold_outcome_from most None (cond line.whole (suc n) n) b lines) same ∙ led.rest_is)
 
-told_last : (most n : ℕ) (s : FoldState) (lines : List Line) (pieces : List PieceValue) →
-    fold_outcome_from most None n s lines ≡ Ok pieces → ToldLast s (wholes lines) pieces
-told_last most n s [] pieces so = let e : s.settled ≡ pieces = cc in inl (refl, e)
-told_last most n s (line ∷ lines) pieces so =
-    last_line most line lines pieces (λ m b. told_last most m b lines pieces) n s line.whole refl
+takes_all : (most n : ℕ) (s : FoldState) (lines : List Line) (pieces : List PieceValue) →
+    fold_outcome_from most None n s lines ≡ Ok pieces → Takes s (wholes lines) pieces
+takes_all most n s [] pieces so = let e : s.settled ≡ pieces = cc in record { end = s; accepted = refl; settled_is = e }
+takes_all most n s (line ∷ lines) pieces so =
+    takes_line most line lines pieces (λ m b. takes_all most m b lines pieces) n s line.whole refl
     (led_on-ok _ _ pieces so)
 
 -- ---- of a whole text
@@ -181,12 +149,15 @@ told-named most t text pieces so =
 told-end : (most : ℕ) (text : List ℕ) (pieces : List PieceValue) → fold_outcome most None (lines_of text) ≡ Ok pieces →
     fold_text text (last_done (whole_lines_of text)) ≡ Some pieces
 told-end most text pieces so =
-    elim (told_last most 0 empty_fold (lines_of text) pieces so) [
-      | inl none ↦ ap (fold_text text) none.0 ∙ ap Some none.1
+    let lines = whole_lines_of text in
+    let takes = takes_all most 0 empty_fold (lines_of text) pieces so in
+    let last = last_done-accepted empty_fold takes.end lines takes.accepted in
+    elim (settles empty_fold takes.end lines takes.accepted) as (λ _. fold_text text (last_done lines) ≡ Some pieces) [
+      | inl none ↦ ap (fold_text text) (last ∙ none.0) ∙ ap Some (sym none.1 ∙ takes.settled_is)
       | inr some ↦
-          let t = last_done (whole_lines_of text) in
-          ap (λ b. cond b (Some []) (pieces_where_done empty_fold (whole_lines_of text) t)) (ne_eqb t 0 (λ e. omega (arith, some.0, e)))
-          ∙ some.1
+          ap (fold_text text) last
+          ∙ ap (λ b. cond b (Some []) (pieces_where_done empty_fold lines takes.end.done)) (ne_eqb takes.end.done 0 (λ e. omega (arith, some.0, e)))
+          ∙ some.1 ∙ ap Some takes.settled_is
     ]
 
 pub told : (most : ℕ) (at : Option ℕ) (text : List ℕ) (pieces : List PieceValue) → fold_outcome most at (lines_of text) ≡ Ok pieces →

@@ -4,41 +4,37 @@ use Rattle.std.specs.List.{AllByRecursion, list_any}
 use Rattle.std.specs.List.Sorted.{IsStrictlySortedBy}
 use Rattle.std.specs.Ordering.{is_eq, is_le, ordering_reverse}
 use Rattle.std.specs.BTreeMap.Comparable.{le_lt_trans}
+use Rattle.std.specs.Cmp.{eq_by_cmp_equiv}
 use Rattle.std.specs.declared.cmp.Ordering.TheVariants.{Less, Equal, Greater}
 use Rattle.std.proofs.lemmas.Bool.{true≢false, or_left, or_right, or_parts}
 use Rattle.std.proofs.lemmas.List.Folds.{list_any-append}
+use Rattle.std.proofs.lemmas.Map.Keys.{sorted_head, sorted_tail}
+use Rattle.std.proofs.Math.Bool.{or-false}
 use Rattle.graph_types.specs.meaning.Orders.{piece_cmp_total}
 use Rattle.graph_types.specs.meaning.Piece.{PieceValue, piece_cmp}
 use Rattle.graph_types.proofs.Members.{piece_cmp-IsAntisymmetric}
-use Rattle.mining_model.proofs.Ascending.{IsStrictlySortedBy-append, all-append, all-weaker}
-use Rattle.record_text.proofs.Sorted.{SortedParts, all-append_parts, all-below, sorted-parts}
 use Rattle.snapshot_fold.specs.meaning.Pieces.{has_piece, is_same_piece}
 use Rattle.snapshot_fold.specs.storage.Undone.{IsOpen, begins_with, pieces_above, pieces_before_open, pieces_up_to}
-use Rattle.snapshot_fold.proofs.Ascending.{absent_below, first_apart, same_item}
+use Rattle.shared_lemmas.proofs.Ascending.{IsStrictlySortedBy-append, SortedParts, all-below, sorted-parts}
+use Rattle.shared_lemmas.proofs.Claims.{all-append, all-append_parts, all-weaker}
+use Rattle.shared_lemmas.proofs.Orderings.{Less-turned, same_item}
+use Rattle.shared_lemmas.proofs.Sets.{absent_below, first_apart}
 
 abbrev same : (p q : PieceValue) → is_same_piece p q ≡ true → p ≡ q
-same = same_item piece_cmp_total piece_cmp-IsAntisymmetric
+same = same_item piece_cmp-IsAntisymmetric
 
 apart_first : (p : PieceValue) (pieces : List PieceValue) → IsStrictlySortedBy piece_cmp (p ∷ pieces) → (q : PieceValue) → is_same_piece q p ≡ true → has_piece pieces q ≡ false
 apart_first = first_apart piece_cmp_total piece_cmp-IsAntisymmetric
 
 itself : (p : PieceValue) → is_same_piece p p ≡ true
-itself p = ap is_eq (piece_cmp_total.antisymm p p) ∙ (elim (piece_cmp p p) as (λ o. o ≡ ordering_reverse o → is_eq (ordering_reverse o) ≡ true) [ Less ↦ λ e. absurd (cc) | Equal ↦ λ _. refl | Greater ↦ λ e. absurd (cc) ] (piece_cmp_total.antisymm p p))
+itself = (eq_by_cmp_equiv piece_cmp_total).refl
 
 mirrored : (p q : PieceValue) → is_same_piece p q ≡ is_same_piece q p
-mirrored p q = ap is_eq (piece_cmp_total.antisymm p q) ∙ (elim (piece_cmp q p) as (λ o. is_eq (ordering_reverse o) ≡ is_eq o) [ Less ↦ refl | Equal ↦ refl | Greater ↦ refl ])
+mirrored = (eq_by_cmp_equiv piece_cmp_total).symm
 
 module _ (pieces : List PieceValue) where
   abbrev pub Ascends : Type 0
   Ascends = IsStrictlySortedBy piece_cmp pieces
-
-head_below : (p : PieceValue) (pieces : List PieceValue) → Ascends (p ∷ pieces) → AllByRecursion (λ q. piece_cmp p q ≡ Less) pieces
-unfolding IsStrictlySortedBy
-head_below p pieces s = s.0
-
-tail_ascends : (p : PieceValue) (pieces : List PieceValue) → Ascends (p ∷ pieces) → Ascends pieces
-unfolding IsStrictlySortedBy
-tail_ascends p pieces s = s.1
 
 -- ---- ascending pieces round p
 
@@ -98,9 +94,9 @@ module _ (p : PieceValue) (held went : List PieceValue) where
       let apart : has_piece held p ≡ false = apart_first p held kept.held_ascends p (itself p) in
       let c_apart : has_piece came p ≡ false = apart_first c came kept.came_ascends p (mirrored p c ∙ tied) in
       record {
-        held_ascends = tail_ascends p held kept.held_ascends;
+        held_ascends = sorted_tail piece_cmp p held kept.held_ascends;
         went_ascends = (sorted-parts piece_cmp (pieces_up_to went p) (pieces_above went p) (subst Ascends (sym (parted went p)) kept.went_ascends)).back;
-        came_ascends = tail_ascends c came kept.came_ascends;
+        came_ascends = sorted_tail piece_cmp c came kept.came_ascends;
         came_held = λ q there. behind p q held (differ p q came c_apart there) (kept.came_held q (or_right (is_same_piece q c) _ there));
         went_away = λ q gone there.
             behind c q came (ap (is_same_piece q) first ∙ differ p q held apart there)
@@ -119,7 +115,7 @@ module _ (p : PieceValue) (held went : List PieceValue) where
         | Less ↦ λ _. refl
         | Equal ↦ λ tied. absurd (true≢false (sym (mirrored c p ∙ ap is_eq tied) ∙ other))
         | Greater ↦ λ greater. absurd (true≢false (sym in_held ∙ absent_below piece_cmp c held
-            (all-below piece_cmp_total c p held (piece_cmp_total.antisymm c p ∙ ap ordering_reverse greater) kept.held_ascends.0)))
+            (all-below piece_cmp_total c p held (Less-turned piece_cmp_total p c greater) kept.held_ascends.0)))
       ] refl in
       absent_below piece_cmp p (c ∷ came) (less, all-below piece_cmp_total p c came less kept.came_ascends.0)
 
@@ -127,7 +123,7 @@ module _ (p : PieceValue) (held went : List PieceValue) where
   IsOpen-stays came kept other =
       let apart = absent came kept other in
       record {
-        held_ascends = tail_ascends p held kept.held_ascends;
+        held_ascends = sorted_tail piece_cmp p held kept.held_ascends;
         went_ascends = (sorted-parts piece_cmp (pieces_up_to went p) (pieces_above went p) (subst Ascends (sym (parted went p)) kept.went_ascends)).back;
         came_ascends = kept.came_ascends;
         came_held = λ q there. behind p q held (differ p q came apart there) (kept.came_held q there);
@@ -161,10 +157,6 @@ stays_step false false h c false so = refl
 stays_step false false h true true so = absurd (true≢false (so refl))
 stays_step false false h false true so = refl
 
-pub or_false : (b : Bool) → (b || false) ≡ b
-or_false true = refl
-or_false false = refl
-
 module _ (q : PieceValue) where
   -- what is among the pieces before
   abbrev Before : List PieceValue → List PieceValue → List PieceValue → Bool
@@ -191,7 +183,7 @@ module _ (q : PieceValue) where
       ∙ ap (λ x. has_piece went q || (has_piece (p ∷ held) q && not (is_same_piece q x || has_piece came q))) (sym (same c p tied))
 
   pub among-undone : (held went came : List PieceValue) → IsOpen held went came → has_piece (pieces_before_open held went came) q ≡ (has_piece went q || (has_piece held q && not (has_piece came q)))
-  among-undone [] went came kept = sym (or_false (has_piece went q))
+  among-undone [] went came kept = sym (or-false (has_piece went q))
   among-undone (p ∷ held) went [] kept = among-stays p held went [] kept refl (among-undone held (pieces_above went p) [] (IsOpen-stays p held went [] kept refl))
   among-undone (p ∷ held) went (c ∷ came) kept =
       elim (is_same_piece c p) as (λ b. is_same_piece c p ≡ b → has_piece (pieces_up_to went p ++ (if b then pieces_before_open held (pieces_above went p) came else p ∷ pieces_before_open held (pieces_above went p) (c ∷ came))) q ≡ Before (p ∷ held) went (c ∷ came)) [
@@ -222,7 +214,7 @@ went_apart p held went came kept other =
 
 module _ (p : PieceValue) (held went : List PieceValue) where
   after_all : (behind : List PieceValue) → Ascends (p ∷ held) → Ascends went → AllByRecursion (λ q. piece_cmp p q ≡ Less) (pieces_before_open held (pieces_above went p) behind)
-  after_all behind s w = all-undone (λ q. piece_cmp p q ≡ Less) held (pieces_above went p) behind (head_below p held s) (beyond-above went p w)
+  after_all behind s w = all-undone (λ q. piece_cmp p q ≡ Less) held (pieces_above went p) behind (sorted_head piece_cmp p held s) (beyond-above went p w)
 
   parts_of : Ascends went → SortedParts piece_cmp (pieces_up_to went p) (pieces_above went p)
   parts_of w = sorted-parts piece_cmp (pieces_up_to went p) (pieces_above went p) (subst Ascends (sym (parted went p)) w)

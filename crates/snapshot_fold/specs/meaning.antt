@@ -5,3 +5,4 @@ pub mod Taking
 pub mod FoldText
 pub mod Folding
 pub mod Records
+pub mod Accepted

@@ -90,12 +90,7 @@ impl Fold {
         ensures settled { IfOk result (λ pieces. pieces ≡ self.now.settled) }
         ensures ascending { IfOk result (IsStrictlySortedBy piece_cmp) }
     {
-        put_back(
-            alloc,
-            &self.pieces,
-            self.went.as_slice(),
-            self.came.as_slice(),
-        )
+        put_back(alloc, &self.pieces, &self.went, &self.came)
     }
 
     fn take_rem(&mut self, stamp: Stamp, piece: &Piece) -> Result<(), FoldFault>
@@ -158,7 +153,7 @@ impl Fold {
     fn goes_in_order(&self, stamp: Stamp, piece: &Piece) -> bool
         ensures { result ≡ goes_in_order self.now stamp piece.now }
     {
-        self.is_open(stamp) && self.nothing_came() && is_above(self.went.as_slice(), piece)
+        self.is_open(stamp) && self.nothing_came() && is_above(&self.went, piece)
     }
 
     /// Whether no piece came at the open timestamp so far.
@@ -171,7 +166,7 @@ impl Fold {
     fn comes_in_order(&self, stamp: Stamp, piece: &Piece) -> bool
         ensures { result ≡ comes_in_order self.now stamp piece.now }
     {
-        self.is_open(stamp) && is_above(self.came.as_slice(), piece)
+        self.is_open(stamp) && is_above(&self.came, piece)
     }
 
     /// Takes a piece out, if it is there.

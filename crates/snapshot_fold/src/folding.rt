@@ -2,7 +2,6 @@ ghost use Rattle.std.specs.Prelude.{◌≡◌, ◌≢◌, ◌≤◌, ◌^◌, �
 ghost use Rattle.std.specs.List.Sorted.{IsStrictlySortedBy};
 ghost use Rattle.graph_types.specs.meaning.Piece.{piece_cmp};
 ghost use Rattle.job_io.specs.calls.Ends.{HasRisen};
-ghost use Rattle.job_io.specs.meaning.Lines.{without_cr as without_cr_of};
 ghost use Rattle.record_text.specs.meaning.Grammar.{record_of};
 ghost use Rattle.snapshot_fold.specs.meaning.Folding.{outcome_at_end, is_reached as is_reached_at, state_after_content, stop_at};
 ghost use Rattle.snapshot_fold.specs.calls.Folds.{AreTold, FoldsRecords};
@@ -10,7 +9,7 @@ ghost use Rattle.snapshot_fold.specs.calls.Reading.{IsOutcome, IsStopOf, TakesLi
 
 use crate::{Fold, FoldFault};
 use graph_types::{NoMemory, PieceList, Stamp};
-use job_io::{LineFault, LineReader, Source, without_cr};
+use job_io::{LineFault, LineReader, Source};
 use record_text::read_record;
 use std::alloc::Global;
 
@@ -162,15 +161,15 @@ fn is_whole(reader: &LineReader, given: bool) -> bool
     given && reader.whole()
 }
 
-/// Folds a whole line.
+/// Folds a whole line, whose CR was dropped.
 fn fold_line(fold: &mut Fold, number: u64, line: &[u8]) -> Result<(), FoldStop>
     ensures led { OnOk result
-        (state_after_content number fold.old (record_of (without_cr_of line.now)) ≡ Ok fold.new) }
+        (state_after_content number fold.old (record_of line.now) ≡ Ok fold.new) }
     ensures stopped { IfErr result
-        (IsStopOf (state_after_content number fold.old (record_of (without_cr_of line.now)))) }
+        (IsStopOf (state_after_content number fold.old (record_of line.now))) }
     ensures judged { result ≢ Err FoldStop.ReadFault }
 {
-    let Ok(said) = read_record(without_cr(line)) else {
+    let Ok(said) = read_record(line) else {
         return Err(FoldStop::BadLine(number));
     };
     match fold.take(&said) {

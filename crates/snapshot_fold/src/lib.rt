@@ -6,10 +6,6 @@ mod fold;
 mod folding;
 pub mod laws;
 mod listing;
-#[cfg(test)]
-mod source_tests;
-#[cfg(test)]
-mod tests;
 
 pub use fault::FoldFault;
 pub use fold::Fold;

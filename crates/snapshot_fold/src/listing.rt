@@ -34,9 +34,7 @@ pub fn put_back(
 fn put_all(pieces: &mut PieceList, more: &[Piece]) -> Result<(), NoMemory>
     ensures { OnOk result (pieces.new ≡ pieces.old ++ more.now) }
 {
-    for piece in more {
-        pieces.push(*piece)?;
-    }
+    pieces.extend_from_slice(more)?;
     Ok(())
 }
 

@@ -6,13 +6,11 @@ use Rattle.std.specs.Ordering.{is_eq}
 use Rattle.std.specs.Str.{bytes_eq}
 use Rattle.graph_types.specs.declared.member.Member.{Member}
 use Rattle.graph_types.specs.declared.member.Member.TheVariants as member
-use Rattle.graph_types.specs.meaning.Piece.{PieceValue, is_ascending, mode_cmp, mode_of, most_members}
-use Rattle.line_fields.specs.meaning.Fields.{words_of, number_of, id_of, is_nothing_words}
+use Rattle.graph_types.specs.meaning.Piece.{PieceValue, member_cmp, mode_cmp, mode_of, most_members}
+use Rattle.line_fields.specs.meaning.Fields.{words_of, number_of, id_of, is_nothing_words, is_dash}
 use Rattle.record_text.specs.declared.read.RecordLine.{RecordLine}
 use Rattle.record_text.specs.declared.read.RecordLine.TheVariants.{Nothing, Rem, Add, Done}
-
-abbrev pub is_dash : ℕ → Bool
-is_dash b = eqb b 45
+use Rattle.shared_lemmas.specs.meaning.Ascending.{is_ascending}
 
 -- two ends make an edge where the first is below the second
 abbrev pub edge_of_ends : ℕ → ℕ → Option Member
@@ -44,7 +42,7 @@ are_alike m n = is_eq (mode_cmp (mode_of m) (mode_of n))
 abbrev pub piece_made : List Member → Option PieceValue
 piece_made [] = None
 piece_made (m ∷ members) =
-    if list_all (are_alike m) members && is_ascending (m ∷ members) && nat_le (length (m ∷ members)) most_members
+    if list_all (are_alike m) members && is_ascending member_cmp (m ∷ members) && nat_le (length (m ∷ members)) most_members
     then Some (record { mode = mode_of m; members = m ∷ members })
     else None
 

@@ -1,11 +1,10 @@
 -- The records of a timestamp, as text.
-use Rattle.std.specs.Prelude.{ℕ, zero, suc, ◌-◌, List, [], ◌∷◌, ◌++◌, codes, decimal}
+use Rattle.std.specs.Prelude.{ℕ, zero, suc, ◌+◌, List, [], ◌∷◌, ◌++◌, length, codes, decimal}
 use Rattle.std.specs.List.{flat_map}
 use Rattle.graph_types.specs.meaning.Graph.{Graph}
 use Rattle.graph_types.specs.declared.member.Member.{Member}
 use Rattle.graph_types.specs.declared.member.Member.TheVariants as member
-use Rattle.graph_types.specs.declared.update.Update.{Update}
-use Rattle.mining_model.specs.meaning.Step.{snapshot, graph_after}
+use Rattle.mining_model.specs.meaning.History.{graph_at}
 use Rattle.mining_model.specs.meaning.Embeddings.{Pattern}
 use Rattle.mining_model.specs.meaning.Changes.{removed_pieces, added_pieces}
 
@@ -37,16 +36,21 @@ done_text t = codes "DONE " ++ decimal t ++ codes "\n"
 abbrev pub step_text : Pattern → Graph → Graph → ℕ → List ℕ
 step_text pattern before now t = delta_text t (removed_pieces pattern before now) (added_pieces pattern before now) ++ done_text t
 
--- the text of timestamp t of some updates
-abbrev pub text_at : Pattern → List Update → ℕ → List ℕ
-text_at pattern us t = step_text pattern (snapshot us (t - 1)) (snapshot us t) t
+-- how many records a timestamp has
+abbrev pub record_count : Pattern → Graph → Graph → ℕ
+record_count pattern before now = length (removed_pieces pattern before now) + length (added_pieces pattern before now)
 
--- the text of timestamps 1 to m of some updates
-abbrev pub text_upto : Pattern → List Update → ℕ → List ℕ
-text_upto pattern us zero = []
-text_upto pattern us (suc m) = text_upto pattern us m ++ text_at pattern us (suc m)
+-- the text of timestamp t, where these graphs follow g; nothing is written at timestamp 0
+abbrev pub text_at : Pattern → Graph → List Graph → ℕ → List ℕ
+text_at pattern g later zero = []
+text_at pattern g later (suc t) = step_text pattern (graph_at g later t) (graph_at g later (suc t)) (suc t)
 
--- the text of some updates from timestamp t + 1 on, where g is the graph before them
-abbrev pub text_from : Pattern → Graph → ℕ → List Update → List ℕ
+-- the text of timestamps 1 to m
+abbrev pub text_upto : Pattern → Graph → List Graph → ℕ → List ℕ
+text_upto pattern g later zero = []
+text_upto pattern g later (suc m) = text_upto pattern g later m ++ text_at pattern g later (suc m)
+
+-- the text of the timestamps after t, at which these graphs follow g
+abbrev pub text_from : Pattern → Graph → ℕ → List Graph → List ℕ
 text_from pattern g t [] = []
-text_from pattern g t (u ∷ us) = step_text pattern g (graph_after g u) (suc t) ++ text_from pattern (graph_after g u) (suc t) us
+text_from pattern g t (next ∷ later) = step_text pattern g next (suc t) ++ text_from pattern next (suc t) later

@@ -1,6 +1,6 @@
 use Rattle.std.proofs.Common.{◌+◌, ◌∷◌, take, sym, ap, ◌∙◌}
 use Rattle.std.specs.List.{slice_split}
-use Rattle.record_text.specs.meaning.Grammar.{is_dash}
+use Rattle.line_fields.specs.meaning.Fields.{is_dash}
 use Rattle.record_text.proofs.Words.{slice_split-at_dash, slice_split-no_dash, rest_all}
 use Rattle.record_text.proofs.read.split_at_dash.Goals as goal
 

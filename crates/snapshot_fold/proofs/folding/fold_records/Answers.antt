@@ -4,7 +4,7 @@ use Rattle.graph_types.specs.meaning.Piece.{piece_cmp}
 use Rattle.job_io.specs.meaning.Lines.{lines_of}
 use Rattle.snapshot_fold.specs.meaning.FoldState.{empty_fold}
 use Rattle.snapshot_fold.specs.meaning.Folding.{fold_outcome}
-use Rattle.snapshot_fold.proofs.Known.{BothKnown-same}
+use Rattle.job_io.proofs.Known.{BothKnown-same}
 use Rattle.snapshot_fold.proofs.Told.{folded_from-reached}
 use Rattle.snapshot_fold.proofs.Going.{Folds-told}
 use Rattle.snapshot_fold.proofs.folding.fold_records.Goals as goal

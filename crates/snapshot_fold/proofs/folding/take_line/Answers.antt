@@ -1,6 +1,7 @@
 use Rattle.std.proofs.Common.{Err, sym, ap, ◌∙◌}
 use Rattle.std.proofs.lemmas.Result.{err_from_is_err_and}
-use Rattle.snapshot_fold.proofs.Taken.{both_true, GivesNext-from, Takes-fault, Takes-none, Takes-line, Takes-stop}
+use Rattle.std.proofs.lemmas.Bool.{and_parts}
+use Rattle.snapshot_fold.proofs.Taken.{GivesNext-from, Takes-fault, Takes-none, Takes-line, Takes-stop}
 use Rattle.snapshot_fold.proofs.folding.take_line.Goals as goal
 
 pub returns-in_err-given-clause-takes : goal.returns-in_err-given-clause-takes
@@ -19,7 +20,7 @@ pub returns-in_err-fold_line-clause-takes : goal.returns-in_err-fold_line-clause
 returns-in_err-fold_line-clause-takes g c =
     let next = c.in_ok-given.ensures in
     let p = err_from_is_err_and c.from_residual-in_err-fold_line.result c.from_residual-in_err-fold_line.ensures.1 in
-    let both = both_true c.in_ok-given.given c.next.new.self.line.whole (sym c.is_whole.ensures ∙ c.if-not-is_whole.false) in
+    let both = and_parts c.in_ok-given.given c.next.new.self.line.whole (sym c.is_whole.ensures ∙ c.if-not-is_whole.false) in
     let given =
     GivesNext-from c.args.reader.now c.next.new.self _ _ c.in_ok-given.given both.0 next.bytes next.line next.number
     next.live next.most next.bound in
@@ -32,7 +33,7 @@ returns-in_err-fold_line-clause-takes g c =
 pub returns-clause-takes : goal.returns-clause-takes
 returns-clause-takes g c =
     let next = c.in_ok-given.ensures in
-    let both = both_true c.in_ok-given.given c.next.new.self.line.whole (sym c.is_whole.ensures ∙ c.if-not-is_whole.false) in
+    let both = and_parts c.in_ok-given.given c.next.new.self.line.whole (sym c.is_whole.ensures ∙ c.if-not-is_whole.false) in
     let given =
     GivesNext-from c.args.reader.now c.next.new.self _ _ c.in_ok-given.given both.0 next.bytes next.line next.number
     next.live next.most next.bound in
