@@ -7,6 +7,7 @@ use Rattle.std.specs.Prelude.{IsTrue}
 use Rattle.std.specs.Io.KnownBytes.{Appends}
 use Rattle.std.proofs.Math.Seq.{take-append_seam}
 use Rattle.job_io.specs.calls.Ends.{BothKnown, AppendsPrefix, PassesOn}
+use Rattle.job_io.proofs.Known.{BothKnown-map, BothKnown-same, BothKnown-then}
 use Rattle.job_io.proofs.Gathering.{Appends-then, PassesOn-start, PassesOn-then, AppendsFront-then}
 use Rattle.job_io.proofs.Gathering.{AppendsFront-more}
 use Rattle.job_io.specs.meaning.Lines.{lf, HasNoLf, Line, Reading, lines_of, whole_lines_of, line_text}
@@ -25,27 +26,6 @@ use Rattle.tesseract.proofs.Leading.{LeadsOn, Belongs}
 use Rattle.tesseract.proofs.Reaching.{IsStop, judged-stop, Reached-start, Reached-moved}
 use Rattle.tesseract.proofs.Reaching.{Reached-accepted, Reached-refused_text, Reached-refused_end}
 use Rattle.tesseract.proofs.Reaching.{Reached-end_text, Reached-end, Reached-no_stop}
-
--- what is known of bytes that have not changed
-pub BothKnown-same : (P : List ℕ → List ℕ → Type 0) (known : Option (List ℕ)) →
-    ((bytes : List ℕ) → P bytes bytes) → BothKnown known known P
-BothKnown-same P None p = tt
-BothKnown-same P (Some bytes) p = p bytes
-
--- what is known of one change and of the next
-BothKnown-then : (P Q R : List ℕ → List ℕ → Type 0) (old mid new : Option (List ℕ)) →
-    BothKnown old mid P → BothKnown mid new Q →
-    ((was now is : List ℕ) → P was now → Q now is → R was is) → BothKnown old new R
-BothKnown-then P Q R None mid new p q join = tt
-BothKnown-then P Q R (Some was) None new p q join = absurd p
-BothKnown-then P Q R (Some was) (Some now) None p q join = absurd q
-BothKnown-then P Q R (Some was) (Some now) (Some is) p q join = join was now is p q
-
-pub BothKnown-map : (P Q : List ℕ → List ℕ → Type 0) (old new : Option (List ℕ)) →
-    BothKnown old new P → ((was is : List ℕ) → P was is → Q was is) → BothKnown old new Q
-BothKnown-map P Q None new p f = tt
-BothKnown-map P Q (Some was) None p f = absurd p
-BothKnown-map P Q (Some was) (Some is) p f = f was is p
 
 pub Running-start : (most : ℕ) (left written : Option (List ℕ)) (reader : Reading) →
     IsTrue reader.line.whole → reader.number ≡ 0 → reader.held ≡ [] →

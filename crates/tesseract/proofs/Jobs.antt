@@ -5,15 +5,15 @@ use Rattle.std.specs.Option.{IfSome, option_map}
 use Rattle.std.specs.Result.{IfOk}
 use Rattle.std.proofs.lemmas.Bool.{and_parts, cond_both, leb-true, ltb-true, ltb-false}
 use Rattle.std.proofs.lemmas.List.Elements.{All-cons, All-nil}
-use Rattle.graph_types.specs.meaning.Graph.{Graph}
+use Rattle.graph_types.specs.meaning.Graph.{Graph, empty_graph}
 use Rattle.graph_types.specs.meaning.Piece.{most_members}
 use Rattle.graph_types.specs.declared.update.Update.{Update}
 use Rattle.graph_types.specs.declared.update.Update.TheVariants.{AddVertex, RemoveVertex, LabelVertex, AddEdge, RemoveEdge, LabelEdge}
 use Rattle.line_fields.specs.meaning.Fields.{words_of, id_of, is_number, value_after, is_label_word, is_nothing_line, number_of}
 use Rattle.job_io.specs.meaning.Lines.{Line, without_cr, most_line_bytes}
 use Rattle.mining_model.specs.meaning.Embeddings.{Pattern, embeddings}
-use Rattle.mining_model.specs.meaning.Step.{Refusal, step, snapshot}
-use Rattle.record_text.specs.meaning.Text.{text_upto}
+use Rattle.mining_model.specs.meaning.History.{Group, history, snapshot}
+use Rattle.mining_model.specs.meaning.Step.{Refusal, step}
 use Rattle.line_fields.specs.meaning.Names.{Names, interning, no_name}
 use Rattle.update_reader.specs.meaning.Grammar.{LineContent, nothing, commit, update, too_many_labels, bad_line, content_of_line, content_of_form, content_of_labelled}
 use Rattle.update_reader.specs.meaning.Grammar.{Form, commit_form, unlabelled, labelled, no_form, form_with, form_after_keyword, form_of}
@@ -21,7 +21,8 @@ use Rattle.update_reader.specs.meaning.Grammar.{ids_of, keyword_of, unlabelled_f
 use Rattle.update_reader.specs.declared.keyword.Keyword.{Keyword}
 use Rattle.update_reader.specs.declared.keyword.Keyword.TheVariants as keyword
 use Rattle.snapshot_fold.specs.meaning.FoldText.{fold_text}
-use Rattle.snapshot_fold.specs.meaning.Records.{AddsShortId, pieces_of}
+use Rattle.snapshot_fold.specs.meaning.Records.{IsTellable, pieces_of}
+use Rattle.snapshot_fold.proofs.Snapshots.{AddsShortId, IsRecordable-empty_graph, IsRecordable-history}
 use Rattle.snapshot_fold.proofs.Telling.{fold_text-upto}
 use Rattle.program_grammar.specs.meaning.Grammar.{◌>>=◌}
 use Rattle.program_grammar.specs.meaning.Header.{header_said, mode_said, size_of, size_said, size_in_range, in_range, value_of, filter_of}
@@ -246,18 +247,18 @@ module _ (most n : ℕ) where
 
 -- ---- a job
 
--- a program of short pieces, and at most so many updates, with short ids
+-- a program of short pieces, and at most so many groups of updates, with short ids
 record JobIsFine (most : ℕ) (v : Verdict) : Type 0 where
   small : IfSome v.pattern (λ pattern. pattern.size ≤ most_members)
-  few : length v.updates ≤ most
-  short : All AddsShortId v.updates
+  few : length v.groups ≤ most
+  short : All (All AddsShortId) v.groups
 
 ended_fine : (most n : ℕ) (stage : Stage) (stop : Option Status) → StageIsSmall stage →
     JobIsFine most (verdict_at_end n stage stop)
 ended_fine most n (heading next names) stop small =
-    record { small = tt; few = omega arith; short = All-nil AddsShortId }
+    record { small = tt; few = omega arith; short = All-nil (All AddsShortId) }
 ended_fine most n (streaming pattern names g) stop small =
-    record { small = small; few = omega arith; short = All-nil AddsShortId }
+    record { small = small; few = omega arith; short = All-nil (All AddsShortId) }
 
 led_fine : (most n : ℕ) (stage : Stage) (j : Judgement) (rest : Stage → Verdict) → StageIsSmall stage →
     LineIsFine most (suc n) j → ((next : Stage) → StageIsSmall next → JobIsFine (most - suc n) (rest next)) →
@@ -271,7 +272,9 @@ led_fine most n stage (accepted u pattern names g) rest small line_is rest_is =
     record {
       small = job.small;
       few = omega (arith, line_is.0, job.few);
-      short = All-cons AddsShortId u (rest (streaming pattern names g)).updates line_is.1 job.short;
+      short =
+          All-cons (All AddsShortId) (u ∷ []) (rest (streaming pattern names g)).groups
+          (All-cons AddsShortId u [] line_is.1 (All-nil AddsShortId)) job.short;
     }
 
 judge_fine : (most n : ℕ) (stage : Stage) (lines : List Line) → StageIsSmall stage →
@@ -283,22 +286,26 @@ judge_fine most n stage (line ∷ lines) small =
 
 -- ---- its records
 
-fold_text-all : (pattern : Pattern) (us : List Update) (t : ℕ) → pattern.size ≤ most_members → All AddsShortId us →
-    length us < 2 ^ 64 → t ≤ length us →
-    fold_text (text_upto pattern us (length us)) t
-    ≡ Some (pieces_of pattern.mode (embeddings pattern (snapshot us t)))
-fold_text-all pattern us zero small short fits within =
-    ap (λ lists. Some (pieces_of pattern.mode lists)) (sym (embeddings-empty pattern))
-fold_text-all pattern us (suc t) small short fits within =
-    fold_text-upto pattern us small short (length us) (suc t) fits (omega arith) within
+module _ (most : ℕ) (lines : List Line) (limit : most ≤ 10 ^ 19) where
+  abbrev groups : List Group
+  groups = (verdict most lines).groups
 
-pub fold_text-job : (most : ℕ) (lines : List Line) (pattern : Pattern) (t : ℕ) → most ≤ 10 ^ 19 →
-    (verdict most lines).pattern ≡ Some pattern → t ≤ length (verdict most lines).updates →
-    fold_text (job_text (verdict most lines)) t
-    ≡ Some (pieces_of pattern.mode (embeddings pattern (snapshot (verdict most lines).updates t)))
-fold_text-job most lines pattern t limit is within =
-    let job = judge_fine most 0 first_stage lines tt in
-    ap (λ p. fold_text (text_under p (verdict most lines).updates) t) is
-    ∙ fold_text-all pattern (verdict most lines).updates t
-    (subst (λ p. IfSome p (λ pattern. pattern.size ≤ most_members)) is job.small) job.short
-    (omega (arith, limit, job.few)) within
+  -- the history of a job can be told
+  pub IsTellable-job : (pattern : Pattern) → (verdict most lines).pattern ≡ Some pattern →
+      IsTellable pattern empty_graph (history empty_graph groups) (length groups)
+  IsTellable-job pattern is =
+      let job = judge_fine most 0 first_stage lines tt in
+      record {
+        small = subst (λ p. IfSome p (λ pattern. pattern.size ≤ most_members)) is job.small;
+        nothing_first = embeddings-empty pattern;
+        recordable = IsRecordable-history empty_graph groups IsRecordable-empty_graph job.short;
+        fits = omega (arith, limit, job.few);
+      }
+
+  pub fold_text-job : (pattern : Pattern) (t : ℕ) → (verdict most lines).pattern ≡ Some pattern →
+      t ≤ length groups →
+      fold_text (job_text (verdict most lines)) t
+      ≡ Some (pieces_of pattern.mode (embeddings pattern (snapshot groups t)))
+  fold_text-job pattern t is within =
+      ap (λ p. fold_text (text_under p groups) t) is
+      ∙ fold_text-upto pattern empty_graph (history empty_graph groups) (length groups) (IsTellable-job pattern is) t within

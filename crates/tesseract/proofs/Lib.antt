@@ -7,3 +7,4 @@ pub mod Making
 mod Commands
 mod Jobs
 mod Listing
+pub mod Telling

@@ -9,7 +9,9 @@ use Rattle.line_fields.specs.meaning.Names.{Names}
 use Rattle.update_reader.specs.meaning.Grammar.{LineContent, nothing, commit, update, too_many_labels, bad_line, content_of_line}
 use Rattle.mining_model.specs.meaning.Step.{Refusal, step, graph_left_by, graph_after}
 use Rattle.mining_model.specs.meaning.Embeddings.{Pattern}
-use Rattle.record_text.specs.meaning.Text.{step_text, text_from}
+use Rattle.mining_model.specs.meaning.History.{Group, history}
+use Rattle.mining_model.proofs.Histories.{length-history}
+use Rattle.record_text.specs.meaning.Text.{step_text, text_from, text_upto}
 use Rattle.record_text.proofs.Texts.{text_from-start}
 use Rattle.program_grammar.specs.declared.fault.Refusal.{Refusal as HeaderRefusal}
 use Rattle.program_grammar.specs.declared.header.HeaderReader.{HeaderReader}
@@ -116,6 +118,13 @@ module _ (most n : ℕ) (stage : Stage) (line : Line) where
       verdict_from most n stage (line ∷ lines) ≡ verdict_after n stage j (λ next. verdict_from most (suc n) next lines)
   judge-cons j is lines = ap (λ j. verdict_after n stage j (λ next. verdict_from most (suc n) next lines)) is
 
+-- what is written one graph after another, from nothing on
+text_from-groups : (pattern : Pattern) (groups : List Group) →
+    text_from pattern empty_graph 0 (history empty_graph groups) ≡ text_under (Some pattern) groups
+text_from-groups pattern groups =
+    text_from-start pattern empty_graph (history empty_graph groups)
+    ∙ ap (text_upto pattern empty_graph (history empty_graph groups)) (length-history empty_graph groups)
+
 -- a line leads on, and no timestamp comes of it
 text_behind-moved : (most n t : ℕ) (stage next : Stage) (lines : List Line) →
     Follows stage (moved next) → IsStampOf stage t →
@@ -124,14 +133,15 @@ unfolding Follows
 text_behind-moved most n t (heading a these) (heading b those) lines f none = refl
 text_behind-moved most n t (heading a these) (streaming pattern names g) lines f none =
     let v = verdict_from most n (streaming pattern names g) lines in
-    ap (λ p. text_under p v.updates) (streaming_pattern most n pattern names g lines)
-    ∙ sym (text_from-start pattern v.updates)
-    ∙ ap (λ h. text_from pattern h 0 v.updates) (sym f)
-    ∙ ap (λ t. text_from pattern g t v.updates) (sym none)
+    ap (λ p. text_under p v.groups) (streaming_pattern most n pattern names g lines)
+    ∙ sym (text_from-groups pattern v.groups)
+    ∙ ap (λ h. text_from pattern h 0 (history h v.groups)) (sym f)
+    ∙ ap (λ t. text_from pattern g t (history g v.groups)) (sym none)
 text_behind-moved most n t (streaming pattern names g) (heading b those) lines f none = absurd f
 text_behind-moved most n t (streaming pattern names g) (streaming same later now) lines f none =
     let v = verdict_from most n (streaming same later now) lines in
-    ap (λ p. text_from p g t v.updates) (sym f.0) ∙ ap (λ h. text_from same h t v.updates) (sym f.1)
+    ap (λ p. text_from p g t (history g v.groups)) (sym f.0)
+    ∙ ap (λ h. text_from same h t (history h v.groups)) (sym f.1)
 
 module _ (most : ℕ) (gone : List Line) (text : List ℕ) (n t : ℕ) (stage : Stage) (line : Line)
     (reached : HasReached most gone text n t stage) where
@@ -204,13 +214,13 @@ Reached-accepted most gone text n t pattern same names later g now u line reache
           let v = verdict_from most (suc n) (streaming same later now) lines in
           text_led most gone text n t stage line reached (accepted u same later now) is lines
           ∙ ap
-          (λ h. text ++ (step_text pattern g h (suc t) ++ text_from pattern h (suc t) v.updates))
+          (λ h. text ++ (step_text pattern g h (suc t) ++ text_from pattern h (suc t) (history h v.groups)))
           (sym graph_is)
           ∙ sym (append_assoc text (step_text pattern g now (suc t))
-          (text_from pattern now (suc t) v.updates))
+          (text_from pattern now (suc t) (history now v.groups)))
           ∙ ap (λ q. (text ++ step_text pattern g now (suc t))
           ++ text_from pattern now (suc t)
-          (verdict_from most (suc n) (streaming q later now) lines).updates)
+          (history now (verdict_from most (suc n) (streaming q later now) lines).groups))
           pattern_is;
       whole_end =
           λ lines. end_led most gone text n t stage line reached (accepted u same later now) is lines

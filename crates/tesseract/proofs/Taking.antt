@@ -5,7 +5,7 @@ use Rattle.std.specs.Prelude.{nat_lt}
 use Rattle.std.proofs.lemmas.Bool.Decides.{nat_tests}
 use Rattle.graph_types.specs.meaning.Piece.{members_of_all}
 use Rattle.graph_types.specs.declared.update.Update.{Update}
-use Rattle.job_io.specs.meaning.Lines.{most_line_bytes}
+use Rattle.job_io.specs.meaning.Lines.{most_line_bytes, without_cr}
 use Rattle.mining_model.specs.meaning.Step.{step}
 use Rattle.cond_eval.specs.meaning.Patterns.{pattern_of}
 use Rattle.mining_model.specs.meaning.Changes.{removed_pieces}
@@ -97,7 +97,7 @@ judged-many most n stage bytes many =
 -- a line that was taken and says no update
 pub Takes-moves : (most n : ℕ) (old new : Job) (line : List ℕ) →
     judgement most n (stage_of old) line ≡ line_judgement n (stage_of old) line →
-    TakesJobLine n old line (Ok (new, None)) →
+    TakesJobLine n old (without_cr line) (Ok (new, None)) →
     Moves most n (stage_of old) (job_stamp old) line (stage_of new) (job_stamp new) []
 Takes-moves most n (Heading h) new line short taken =
     record { moved_is = short ∙ taken.0; stamp_of_stage = refl; same_stamp = taken.1; no_text = refl }
@@ -107,7 +107,7 @@ Takes-moves most n (Streaming names m) new line short taken =
 -- a line that was taken and says an update
 pub Takes-accepts : (most n : ℕ) (old new : Job) (line : List ℕ) (changes : Changes) →
     judgement most n (stage_of old) line ≡ line_judgement n (stage_of old) line →
-    TakesJobLine n old line (Ok (new, Some changes)) →
+    TakesJobLine n old (without_cr line) (Ok (new, Some changes)) →
     Accepts most n (stage_of old) (job_stamp old) line (stage_of new) (job_stamp new)
     (delta_text (job_stamp new) (members_of_all changes.rem) (members_of_all changes.add)
     ++ done_text (job_stamp new))
@@ -135,7 +135,7 @@ Takes-accepts most n (Streaming names m) new line changes short taken = record {
 -- a line that was taken and is refused
 pub Takes-refused : (most n : ℕ) (old : Job) (line : List ℕ) (why : Status) →
     judgement most n (stage_of old) line ≡ line_judgement n (stage_of old) line →
-    TakesJobLine n old line (Err (stop.Refused why)) →
+    TakesJobLine n old (without_cr line) (Err (stop.Refused why)) →
     judgement most n (stage_of old) line ≡ refused why
 Takes-refused most n (Heading h) line why short taken = short ∙ taken
 Takes-refused most n (Streaming names m) line why short taken = short ∙ taken

@@ -5,10 +5,11 @@ use Rattle.std.proofs.Common.{subst, append-nil, arith}
 use Rattle.job_io.specs.calls.Ends.{BothKnown, AppendsPrefix, PassesOn, Puts, Gathers}
 use Rattle.job_io.proofs.Gathering.{PassesOn-start, PassesOn-then, Gathers-put}
 use Rattle.job_io.specs.meaning.Lines.{Line, Reading, lines_of, GivesLine, GivesEnd, StopsInLine}
-use Rattle.job_io.specs.meaning.Lines.{LongLineFollows}
+use Rattle.job_io.specs.meaning.Lines.{LongLineFollows, without_cr}
 use Rattle.job_io.specs.calls.Reading.{ReadsNext}
 use Rattle.job_io.specs.declared.line_reader.LineFault.TheVariants as line
-use Rattle.job_io.proofs.LinesOf.{lf_or_none, lines_of-whole, lines_of-last}
+use Rattle.job_io.proofs.Known.{BothKnown-map, BothKnown-same}
+use Rattle.job_io.proofs.LinesOf.{lf_or_none, lines_of-whole, lines_of-last, some_line}
 use Rattle.tesseract.specs.declared.status.Status.{Status}
 use Rattle.tesseract.specs.declared.status.Status.TheVariants as status
 use Rattle.tesseract.specs.declared.status.LimitKind.TheVariants as limit
@@ -24,7 +25,7 @@ use Rattle.tesseract.specs.meaning.Job.{job_end}
 use Rattle.tesseract.specs.calls.Running.{IsRunning, HasEnded, EndsJob, IsEnd}
 use Rattle.tesseract.proofs.Leading.{LeadsOn, Accepts}
 use Rattle.tesseract.proofs.Reaching.{IsStop, judged-stop}
-use Rattle.tesseract.proofs.Going.{BothKnown-same, BothKnown-map, Running-start, Running-led}
+use Rattle.tesseract.proofs.Going.{Running-start, Running-led}
 use Rattle.tesseract.proofs.Going.{Running-fails, Running-ended}
 use Rattle.tesseract.proofs.Taking.{judged-short, judged-long, judged-many, Takes-moves}
 use Rattle.tesseract.proofs.Taking.{Takes-accepts, Takes-refused}
@@ -86,18 +87,6 @@ module _ (stage : Stage) (old new : Reading) (was is : Option (List ℕ)) where
         ∙ ap (λ n. refused (status.Limit limit.LineBytes n))
         (let e : suc old.number ≡ n = omega (arith, next) in e);
   })))
-
-some_line : (text : List ℕ) → text ≢ [] →
-    (line : Line) × (others : List Line) × (lines_of text ≡ line ∷ others)
-some_line [] nonempty = absurd (nonempty refl)
-some_line (b ∷ bs) nonempty = elim (lf_or_none (b ∷ bs)) [
-  | inl first ↦ (
-    record { bytes = first.line; whole = true },
-    lines_of first.rest,
-    ap lines_of first.split ∙ lines_of-whole first.line first.rest first.no_lf,
-  )
-  | inr none ↦ (record { bytes = b ∷ bs; whole = false }, [], lines_of-last b bs none)
-]
 
 -- one line too many follows
 pub ends_many : (stage : Stage) (old new : Reading) (was is : Option (List ℕ)) (n : ℕ) →
@@ -205,12 +194,12 @@ ends_refused stage old new was is why refused_is gives =
 -- A line stands at the reader, and is taken by the job.
 module _ (old new : Reading) (was is : Option (List ℕ)) (job : Job) (n : ℕ) (bytes : List ℕ)
     (stands : Advances (stage_of job) old new was is None) (n_is : n ≡ new.number)
-    (bytes_is : bytes ≡ new.line.bytes) where
+    (bytes_is : bytes ≡ without_cr new.line.bytes) where
   at_line : (result : Result (Job × Option Changes) Stop) → TakesJobLine n job bytes result →
-      TakesJobLine (suc old.number) job new.line.bytes result
+      TakesJobLine (suc old.number) job (without_cr new.line.bytes) result
   at_line result taken =
       let next : n ≡ suc old.number = omega (arith, n_is, stands.2.counted) in
-      subst (λ n. TakesJobLine n job new.line.bytes result) next
+      subst (λ n. TakesJobLine n job (without_cr new.line.bytes) result) next
       (subst (λ bytes. TakesJobLine n job bytes result) bytes_is taken)
 
   short : judgement old.most (suc old.number) (stage_of job) new.line.bytes

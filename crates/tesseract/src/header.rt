@@ -5,10 +5,10 @@ ghost use Rattle.tesseract.specs.calls.HeaderLine.{TakesHeaderLine};
 
 use filter_polarity::Program;
 use graph_types::NoMemory;
+use line_fields::Names;
 use program_grammar::{HeaderReader, HeaderStep, ProgramFault, Word};
 use std::alloc::Global;
 use std::marker::Model;
-use line_fields::Names;
 
 /// A header that is being read, and the names of the labels in it. There is always room for those of the
 /// conditions to come, whatever they are.

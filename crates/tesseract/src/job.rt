@@ -7,11 +7,10 @@ use crate::header::{Header, HeaderTurn};
 use crate::miner::{Changes, Miner};
 use crate::status::{InputKind, LimitKind, ProgramKind, Status};
 use graph_types::{NoMemory, Stamp};
-use job_io::without_cr;
+use line_fields::Names;
 use program_grammar::ProgramFault;
 use std::alloc::Global;
 use update_reader::{Item, UpdateFault, read_line};
-use line_fields::Names;
 use update_rules::StepFault;
 
 /// A job that is being read: its header, and then its updates.
@@ -62,18 +61,17 @@ impl Job {
         }
     }
 
-    /// Takes line `number`, without its LF: what the job is then, and the changes of its timestamp
+    /// Takes line `number`, without its LF and CR: what the job is then, and the changes of its timestamp
     /// where the line is an update.
     pub fn take(
         self,
         alloc: Global,
         number: u64,
-        line: &[u8],
+        text: &[u8],
     ) -> Result<(Job, Option<Changes>), Stop>
         requires { job_stamp self < number }
-        ensures { TakesJobLine number self line.now result }
+        ensures { TakesJobLine number self text.now result }
     {
-        let text = without_cr(line);
         match self {
             Job::Heading(header) => take_header(alloc, header, number, text),
             Job::Streaming(names, miner) => take_update(alloc, names, miner, number, text),

@@ -4,8 +4,6 @@
 #![tactic(auto)]
 
 mod fold;
-#[cfg(test)]
-mod fold_tests;
 mod header;
 mod job;
 mod laws;
@@ -31,7 +29,7 @@ fn main(rt: HostRuntime) -> ExitCode {
     let status = run(
         &rt,
         rt.alloc(),
-        words.as_slice(),
+        &words,
         &mut input,
         &mut output,
         &mut error,

@@ -1,7 +1,7 @@
 ghost use Rattle.std.specs.Prelude.{◌≡◌, ◌≢◌, ◌≤◌, ◌^◌, ℕ, [], List, Option, Some, IsTrue, Ok, OnErr};
 ghost use Rattle.job_io.specs.calls.Ends.{Gathers, HasCause, HasRisen};
 ghost use Rattle.tesseract.specs.calls.Reading.{changes_text, stage_of, job_stamp};
-ghost use Rattle.tesseract.specs.calls.Run.{Mines};
+ghost use Rattle.tesseract.specs.calls.Run.{Mines, WritesTold};
 ghost use Rattle.tesseract.specs.calls.Running.{IsRunning};
 ghost use Rattle.tesseract.specs.calls.Turning.{Advances, StandsAtNextAfter, Turns, MinesLines};
 
@@ -26,6 +26,8 @@ pub fn mine<S: Source, O: Sink>(alloc: Global, most: u64, input: &mut S, out: &m
     requires { most ≤ 10 ^ 19 }
     ensures mined { Mines most (S.left input.old) (S.left input.new)
         (O.written out.old) (O.written out.new) result }
+    ensures tells { WritesTold most (S.left input.old) (S.left input.new)
+        (O.written out.old) (O.written out.new) }
     ensures not_usage { result ≢ Status.Usage }
     ensures read_cause { result ≡ Status.ReadFault →
         HasRisen (S.faults input.old) (S.faults input.new) }

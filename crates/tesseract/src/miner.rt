@@ -73,8 +73,8 @@ impl Miner {
         step(&mut graph, update)?;
         let standing = embeddings(alloc, &program, &graph)?;
         let changes = Changes {
-            rem: without(alloc, before.as_slice(), standing.as_slice())?,
-            add: without(alloc, standing.as_slice(), before.as_slice())?,
+            rem: without(alloc, &before, &standing)?,
+            add: without(alloc, &standing, &before)?,
         };
         let miner = Miner {
             program,

@@ -3,7 +3,7 @@ ghost use Rattle.command_words.specs.meaning.Words.{command_of};
 ghost use Rattle.job_io.specs.calls.Ends.{HasRisen};
 ghost use Rattle.tesseract.specs.meaning.Commands.{fold_command, is_still as is_still_of, mine_command};
 ghost use Rattle.tesseract.specs.calls.Fold.{Folds};
-ghost use Rattle.tesseract.specs.calls.Run.{Mines, Tells};
+ghost use Rattle.tesseract.specs.calls.Run.{Mines, Tells, WritesTold};
 ghost use Rattle.tesseract.specs.meaning.Status.{status_line};
 
 use crate::fold::fold;
@@ -42,6 +42,12 @@ pub fn run<R: Wait + Threads, S: Source, O: Sink, E: Sink, G: Gate>(
     ensures mined { command_of (map string_bytes words.now) ≡ Some mine_command →
         Mines MOST_LINES (S.left input.old) (S.left input.new)
         (O.written out.old) (O.written out.new) result }
+
+    // Whatever the status, folding what `mine` wrote gives the embeddings of the job's snapshots alone, and
+    // those of each timestamp whose line it wrote.
+    ensures tells { command_of (map string_bytes words.now) ≡ Some mine_command →
+        WritesTold MOST_LINES (S.left input.old) (S.left input.new)
+        (O.written out.old) (O.written out.new) }
 
     // `fold` writes the pieces that the records tell of.
     ensures folded { (at : Option ℕ) → command_of (map string_bytes words.now) ≡ Some (fold_command at) →
@@ -120,6 +126,6 @@ fn tell<E: Sink>(err: &mut E, status: Status) -> Status
     ensures told { Tells (E.written err.old) (E.written err.new)
         (E.faults err.old) (E.faults err.new) (status_line status) }
 {
-    let _ = put_all(err, status.line().as_slice());
+    let _ = put_all(err, &status.line());
     status
 }

@@ -205,7 +205,7 @@ fn refusal(place: &[u8], number: u64, kind: &ShortLine) -> ShortLine
     let mut line = phrase(place);
     line.push_number(number);
     line.push(b": ");
-    line.push(kind.as_slice());
+    line.push(kind);
     line.push(b"\n");
     line
 }
@@ -215,7 +215,7 @@ fn limit(kind: &ShortLine, at: u64) -> ShortLine
     ensures { result ≡ codes "limit: " ++ kind.now ++ codes " " ++ decimal at ++ codes "\n" }
 {
     let mut line = phrase(b"limit: ");
-    line.push(kind.as_slice());
+    line.push(kind);
     line.push(b" ");
     line.push_number(at);
     line.push(b"\n");

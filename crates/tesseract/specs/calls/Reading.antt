@@ -3,7 +3,6 @@ use Rattle.std.specs.Prelude.{◌≡◌, ℕ, suc, List, [], ◌++◌, Option, N
 use Rattle.graph_types.specs.meaning.Graph.{Graph}
 use Rattle.graph_types.specs.meaning.Piece.{members_of_all}
 use Rattle.graph_types.specs.declared.update.Update.{Update}
-use Rattle.job_io.specs.meaning.Lines.{without_cr}
 use Rattle.mining_model.specs.meaning.Step.{Refusal}
 use Rattle.cond_eval.specs.meaning.Patterns.{pattern_of}
 use Rattle.mining_model.specs.meaning.Changes.{removed_pieces, added_pieces}
@@ -93,10 +92,10 @@ TakesHeader n h text (Err stop.NoMemory) = Unit {0}
 TakesHeader n h text (Err (stop.Refused why)) =
     header_judgement n (header_said h.reader text h.names) ≡ refused why
 
--- Line n, with its CR, is taken by a job.
+-- Line n, whose CR was dropped, is taken by a job.
 abbrev pub TakesJobLine : ℕ → Job → List ℕ → Result (Job × Option Changes) Stop → Type 0
-TakesJobLine n (Heading h) line result = TakesHeader n h (without_cr line) result
-TakesJobLine n (Streaming names m) line result = TakesUpdate n names m (without_cr line) result
+TakesJobLine n (Heading h) text result = TakesHeader n h text result
+TakesJobLine n (Streaming names m) text result = TakesUpdate n names m text result
 
 -- the text of a timestamp with these changes; nothing where there is none
 abbrev pub changes_text : ℕ → Option Changes → List ℕ

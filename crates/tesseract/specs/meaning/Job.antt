@@ -5,6 +5,7 @@ use Rattle.std.specs.Option.{unwrap_or}
 use Rattle.graph_types.specs.meaning.Graph.{Graph, empty_graph}
 use Rattle.graph_types.specs.declared.update.Update.{Update}
 use Rattle.job_io.specs.meaning.Lines.{Line, without_cr, most_line_bytes}
+use Rattle.mining_model.specs.meaning.History.{Group, history}
 use Rattle.mining_model.specs.meaning.Step.{Refusal, is_loop, no_vertex, vertex_exists, edge_exists, no_edge, step}
 use Rattle.mining_model.specs.meaning.Embeddings.{Pattern}
 use Rattle.record_text.specs.meaning.Text.{text_upto}
@@ -92,11 +93,11 @@ judgement most n stage bytes =
     else if nat_lt most_line_bytes (length bytes) then refused (status.Limit limit.LineBytes n)
     else line_judgement n stage bytes
 
--- What reading a job gives: the program, where its header is whole; the updates that were accepted;
--- the refusal that stopped it, if a line was refused; and how it ends if none was.
+-- What reading a job gives: the program, where its header is whole; the updates that were accepted, a group
+-- for each timestamp; the refusal that stopped it, if a line was refused; and how it ends if none was.
 pub record Verdict : Type 0 where
   pub pattern : Option Pattern
-  pub updates : List Update
+  pub groups : List Group
   pub stop : Option Status
   pub close : Status
 
@@ -105,23 +106,24 @@ abbrev pub verdict_at_end : ℕ → Stage → Option Status → Verdict
 verdict_at_end n (heading next names) stop =
     record {
       pattern = None;
-      updates = [];
+      groups = [];
       stop = stop;
       close = status.BadProgram n (program.Missing (awaited_word next));
     }
 verdict_at_end n (streaming pattern names g) stop =
-    record { pattern = Some pattern; updates = []; stop = stop; close = status.Ok }
+    record { pattern = Some pattern; groups = []; stop = stop; close = status.Ok }
 
--- u was accepted before all that
-abbrev pub with_update : Update → Verdict → Verdict
-with_update u v =
-    record { pattern = v.pattern; updates = u ∷ v.updates; stop = v.stop; close = v.close }
+-- a timestamp with these updates came before all that
+abbrev pub with_group : Group → Verdict → Verdict
+with_group us v =
+    record { pattern = v.pattern; groups = us ∷ v.groups; stop = v.stop; close = v.close }
 
--- what comes of a line after n others, and of those after it
+-- What comes of a line after n others, and of those after it. Each update that is accepted has a timestamp
+-- of its own.
 abbrev pub verdict_after : ℕ → Stage → Judgement → (Stage → Verdict) → Verdict
 verdict_after n stage (refused why) rest = verdict_at_end n stage (Some why)
 verdict_after n stage (moved next) rest = rest next
-verdict_after n stage (accepted u pattern names g) rest = with_update u (rest (streaming pattern names g))
+verdict_after n stage (accepted u pattern names g) rest = with_group (u ∷ []) (rest (streaming pattern names g))
 
 -- The lines after n others, where at most `most` are allowed. The first that is refused ends all.
 abbrev pub verdict_from : ℕ → ℕ → Stage → List Line → Verdict
@@ -137,11 +139,12 @@ verdict most lines = verdict_from most 0 first_stage lines
 abbrev pub job_end : Verdict → Status
 job_end v = unwrap_or v.stop v.close
 
--- the text of timestamps 1 to the number of updates; nothing without a program
-abbrev pub text_under : Option Pattern → List Update → List ℕ
-text_under None us = []
-text_under (Some pattern) us = text_upto pattern us (length us)
+-- the text of a timestamp for each group, from nothing on; no text without a program
+abbrev pub text_under : Option Pattern → List Group → List ℕ
+text_under None groups = []
+text_under (Some pattern) groups =
+    text_upto pattern empty_graph (history empty_graph groups) (length groups)
 
 -- what is written for a job
 abbrev pub job_text : Verdict → List ℕ
-job_text v = text_under v.pattern v.updates
+job_text v = text_under v.pattern v.groups

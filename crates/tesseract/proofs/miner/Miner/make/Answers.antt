@@ -14,5 +14,5 @@ returns c =
     c.self.inside.standing c.in_ok-standing.standing
     c.in_ok-without.field-0 c.in_ok-without-2.field-0
     old_is c.in_ok-step.ensures c.self.invariant c.in_ok-standing.ensures.members
-    (rw (← c.as_slice.ensures, ← c.as_slice-2.ensures) c.in_ok-without.ensures.members)
-    (rw (← c.as_slice-3.ensures, ← c.as_slice-4.ensures) c.in_ok-without-2.ensures.members)
+    (rw (← c.deref.ensures, ← c.deref-2.ensures) c.in_ok-without.ensures.members)
+    (rw (← c.deref-3.ensures, ← c.deref-4.ensures) c.in_ok-without-2.ensures.members)
