@@ -1,5 +1,5 @@
 -- Where a neighbour stands in a short list, and what an edit there does.
-use Rattle.std.proofs.Common.{◌≡◌, ◌≢◌, ◌<◌, ◌≤◌, ◌+◌, ℕ, zero, suc, Bool, true, false, nat_lt, cond, List, [], ◌∷◌, ◌++◌, length, set, take, drop, slice_get, refl, sym, ap, subst, ◌∙◌, None, Some, arith}
+use Rattle.std.proofs.Common.{◌≡◌, ◌≢◌, ◌<◌, ◌≤◌, ◌+◌, ℕ, zero, suc, Bool, true, false, nat_lt, cond, [], ◌∷◌, ◌++◌, length, set, take, drop, slice_get, refl, sym, ap, subst, ◌∙◌, None, Some, arith}
 use Rattle.std.specs.BTreeMap.{BTreeMap, IsFromIterResult, is_at}
 use Rattle.std.specs.Cmp.{nat_cmp_total, eq_by_cmp_equiv, tied_itself}
 use Rattle.std.specs.FinMap as map

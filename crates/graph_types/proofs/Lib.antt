@@ -1,11 +1,15 @@
+pub mod Ahead
 pub mod EdgesInOrder
 pub mod FewPairs
 pub mod Graph
 pub mod Listing
 pub mod Lists
 pub mod Members
+pub mod Merging
+pub mod Neighbourhoods
 pub mod Packed
 pub mod RowChanges
 pub mod Rows
+pub mod Skipping
 pub mod Undirected
 pub mod Views

@@ -28,7 +28,7 @@ pub pair-test : (e f : ℕ × ℕ) → eq_by_cmp pair_cmp e f ≡ (eqb e.0 f.0 &
 pair-test e f = sym (tied_then _ _) ∙ (λ i. nat-test e.0 f.0 i && nat-test e.1 f.1 i)
 
 module _ {K X : Type 0} (R : K → K → Ordering) where
-  find-append : (q : K) (es fs : List (K × X)) → map.find R q (es ++ fs) ≡ option_or (map.find R q es) (map.find R q fs)
+  pub find-append : (q : K) (es fs : List (K × X)) → map.find R q (es ++ fs) ≡ option_or (map.find R q es) (map.find R q fs)
   find-append q [] fs = refl
   find-append q (e ∷ es) fs =
       elim (eq_by_cmp R q e.0) as (λ b. cond b (Some e.1) (map.find R q (es ++ fs)) ≡ option_or (cond b (Some e.1) (map.find R q es)) (map.find R q fs)) [ true ↦ refl | false ↦ find-append q es fs ]

@@ -1,2 +1,5 @@
 -- What the calls do, by their results.
 pub mod Entry
+pub mod Counts
+pub mod Views
+pub mod TwoGraphs

@@ -3,6 +3,7 @@ ghost use Rattle.std.specs.FinMap as map;
 ghost use Rattle.std.specs.Ordering.{nat_cmp};
 ghost use Rattle.graph_types.specs.meaning.Graph.{empty_graph, has_vertex, has_edge, with_vertex, with_edge, without_edge};
 ghost use Rattle.graph_types.specs.storage.Adjacency.{Lists, without_row, without_edges_to, goes_up};
+ghost use Rattle.graph_types.specs.storage.Seen.{seen_at};
 
 use crate::neighbours::Neighbours;
 use crate::{Edge, EdgeList, LabelId, NoMemory, VertexId, VertexList};
@@ -13,8 +14,8 @@ use std::marker::Model;
 /// What is known of a vertex: its label, and where its edges lead.
 #[derive(Debug, Drop)]
 pub(crate) struct Vertex {
-    label: LabelId,
-    near: Neighbours<LabelId>,
+    pub label: LabelId,
+    pub near: Neighbours<LabelId>,
 }
 
 /// A directed labelled graph, as one ordered map of its vertices, each with the edges from it.
@@ -45,6 +46,14 @@ impl Adjacency {
             rows: BTreeMap::new(alloc),
             alloc,
         }
+    }
+
+    /// What is known of a vertex.
+    pub fn vertex(&self, v: VertexId) -> Option<&Vertex>
+        ensures label { (seen_at result).label ≡ map.get self.now.labels v }
+        ensures near { (w : ℕ) → map.get (seen_at result).near w ≡ map.get self.now.edges (v, w) }
+    {
+        self.rows.get(&v)
     }
 
     /// The label of a vertex.

@@ -3,6 +3,7 @@
 #![tactic(auto)]
 
 mod adjacency;
+mod cursor;
 mod edge;
 mod entries;
 mod few;
@@ -10,11 +11,16 @@ mod gate;
 mod ids;
 mod list;
 mod member;
+mod merge;
+mod near;
 mod neighbours;
 mod no_memory;
+mod pair;
 mod piece;
 mod snapshot;
+mod two_snapshots;
 mod update;
+mod view;
 
 pub use edge::Edge;
 pub use entries::Entries;
@@ -22,11 +28,15 @@ pub use gate::{FreeGate, Gate, Point};
 pub use ids::{LabelId, Mode, Stamp, VertexId};
 pub use list::List;
 pub use member::Member;
+pub use near::{Near, NearList};
 pub use neighbours::Neighbours;
 pub use no_memory::NoMemory;
+pub use pair::Pair;
 pub use piece::Piece;
 pub use snapshot::Snapshot;
+pub use two_snapshots::TwoSnapshots;
 pub use update::Update;
+pub use view::{FetchStop, GraphView};
 
 /// Vertices, in an order that the call says.
 pub type VertexList = List<VertexId>;

@@ -1,9 +1,11 @@
 ghost use Rattle.std.specs.Prelude.{◌≡◌, ℕ, IsSome, IfSome, IfOk, OnOk, OnErr, is_some};
 ghost use Rattle.std.specs.FinMap as map;
 ghost use Rattle.graph_types.specs.meaning.Graph.{empty_graph, with_vertex, with_edge, without_vertex, without_edge, has_vertex, HasEnds, label_between, neighbours};
+ghost use Rattle.graph_types.specs.meaning.Neighbourhood.{neighbourhood_of};
 ghost use Rattle.graph_types.specs.meaning.Simple.{IsSimple};
+ghost use Rattle.graph_types.specs.storage.Seen.{seen_at};
 
-use crate::adjacency::Adjacency;
+use crate::adjacency::{Adjacency, Vertex};
 use crate::{Edge, EdgeList, LabelId, Neighbours, NoMemory, VertexId, VertexList};
 use std::alloc::Global;
 use std::marker::Model;
@@ -39,6 +41,14 @@ impl Snapshot {
         Snapshot {
             arcs: Adjacency::new(alloc),
         }
+    }
+
+    /// What is known of a vertex, or `None` where it isn't there. Takes time logarithmic in the number of
+    /// vertices.
+    pub(crate) fn vertex(&self, v: VertexId) -> Option<&Vertex>
+        ensures { seen_at result ≡ neighbourhood_of self.now v }
+    {
+        self.arcs.vertex(v)
     }
 
     /// The label of a vertex, or `None` where it isn't there. Takes time logarithmic in the number of

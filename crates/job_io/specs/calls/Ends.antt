@@ -1,10 +1,7 @@
 -- What bytes come from a source and go to a sink, and why a call on one fails.
-use Rattle.std.specs.Prelude.{◌≡◌, ℕ, ◌+◌, ◌-◌, ◌^◌, ◌≤◌, min, List, ◌++◌, take, ⊤, Option, None, Some, Result, OnOk, OnErr}
+use Rattle.std.specs.Prelude.{◌≡◌, ℕ, ◌≤◌, List, ◌++◌, take, ⊤, Option, None, Some, Result, OnOk, OnErr}
 use Rattle.std.specs.Io.KnownBytes.{Appends}
-
--- The count has risen. It is kept in 64 bits, so at its last value it counts as risen where it stays.
-abbrev pub HasRisen : ℕ → ℕ → Type 0
-HasRisen before now = min (before + 1) (2 ^ 64 - 1) ≤ now
+pub use Rattle.graph_types.specs.calls.Counts.{HasRisen}
 
 -- The count never falls, and an error comes only where it has risen.
 pub record HasCause {T E : Type 0} (before now : ℕ) (result : Result T E) : Type 0 where

@@ -1,11 +1,8 @@
 -- How a source and a sink in memory answer each call.
-use Rattle.std.specs.Prelude.{ℕ, ◌+◌, ◌-◌, ◌^◌, min, Bool, ◌&&◌, List, ◌++◌, length, take, drop, nat_eq, nat_lt, Ok, Err, Result, if◌then◌else◌}
+use Rattle.std.specs.Prelude.{ℕ, ◌-◌, min, Bool, ◌&&◌, List, ◌++◌, length, take, drop, nat_eq, nat_lt, Ok, Err, Result, if◌then◌else◌}
 use Rattle.std.specs.List.{list_any}
 use Rattle.job_io.specs.declared.ends.Failed.{Failed}
-
--- the next value of a count that is kept in 64 bits
-abbrev pub next_count : ℕ → ℕ
-next_count count = min (count + 1) (2 ^ 64 - 1)
+pub use Rattle.graph_types.specs.calls.Counts.{next_count}
 
 -- whether this call, counted from 1, is one of those that fail
 abbrev pub is_failing : List ℕ → ℕ → Bool

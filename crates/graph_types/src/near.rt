@@ -1,0 +1,131 @@
+ghost use Rattle.std.specs.Prelude.{◌≡◌, ◌↔◌, ◌^◌, ◌<◌, ◌||◌, [], ◌∷◌, ◌++◌, length, is_some, IsTrue, OnOk, OnErr, slice_get};
+ghost use Rattle.std.specs.Iterator.Adapters.{IterYieldsInOrder};
+ghost use Rattle.std.specs.Option.{option_copied};
+ghost use Rattle.std.specs.Slice.Iter.{iter_rest};
+
+use crate::{LabelId, NoMemory, VertexId};
+use smallvec::SmallVec;
+use std::alloc::Global;
+use std::marker::Model;
+use std::ops::DerefSlice;
+use std::slice;
+
+/// A neighbour of a vertex in one of two graphs or both, with the label of the edge between them in
+/// each. `None` says that the graph has no such edge.
+#[derive(Clone, Copy, Debug, Default, PartialEq, Eq)]
+pub struct Near {
+    pub to: VertexId,
+    pub before: Option<LabelId>,
+    pub after: Option<LabelId>,
+}
+
+impl Near {
+    /// Whether an edge leads there in either graph.
+    pub fn is_joined(&self) -> bool
+        ensures { result ≡ (is_some self.now.before || is_some self.now.after) }
+    {
+        self.before.is_some() || self.after.is_some()
+    }
+}
+
+/// How many neighbours lie in a list itself.
+const INLINE: usize = 8;
+
+/// Neighbours in two graphs, in an order that the call says, which contracts see as a list. Eight lie
+/// in the value itself, more in an allocation. It acts as a slice of them.
+#[derive(Debug, Drop)]
+pub struct NearList {
+    items: SmallVec<Near, INLINE>,
+}
+
+impl Model for NearList {
+    ghost use Rattle.std.specs.Prelude.{List as Items};
+    ghost use Rattle.graph_types.specs.declared.near.Near.{Near};
+
+    ghost Value = { Items Near };
+
+    ghost view = { λ l. l.items.items };
+}
+
+impl NearList {
+    /// An empty list that takes its memory from `alloc`. It takes none yet.
+    pub fn new(alloc: Global) -> NearList
+        ensures { result ≡ [] }
+    {
+        NearList {
+            items: SmallVec::new(alloc),
+        }
+    }
+
+    /// Puts a neighbour at the end, in constant time on average. It takes memory from the ninth on.
+    pub fn push(&mut self, near: Near) -> Result<(), NoMemory>
+        ensures ok { OnOk result (self.new ≡ self.old ++ near ∷ []) }
+        ensures err { OnErr result (self.new ≡ self.old) }
+    {
+        // Written out, since passed on as it is it gets no generated proof.
+        let Near { to, before, after } = near;
+        self.items.push(Near { to, before, after })?;
+        Ok(())
+    }
+
+    /// How many neighbours there are.
+    pub fn len(&self) -> usize
+        ensures { result ≡ length self.now }
+    {
+        self.items.len()
+    }
+
+    /// Whether there is no neighbour.
+    pub fn is_empty(&self) -> bool
+        ensures { IsTrue result ↔ (self.now ≡ []) }
+    {
+        self.items.is_empty()
+    }
+
+    /// The neighbour at place `i`, counted from 0.
+    pub fn get(&self, i: usize) -> Option<&Near>
+        ensures { option_copied result ≡ slice_get self.now i }
+    {
+        self.items.as_slice().get(i)
+    }
+
+    /// All neighbours, in order.
+    pub fn as_slice(&self) -> &[Near]
+        ensures { result.now ≡ self.now }
+    {
+        self.items.as_slice()
+    }
+
+    /// Goes over the neighbours, in order.
+    pub fn iter(&self) -> slice::Iter<'_, Near>
+        ensures rest { iter_rest result ≡ self.now }
+        ensures bound { length (iter_rest result) < 2 ^ 64 }
+        ensures runs { IterYieldsInOrder Near }
+    {
+        self.items.as_slice().iter()
+    }
+}
+
+impl DerefSlice for NearList {
+    type Elem = Near;
+
+    ghost deref_gives = { λ list items. items ≡ list };
+
+    fn deref(&self) -> &[Near] {
+        self.as_slice()
+    }
+}
+
+impl<'a> IntoIterator for &'a NearList {
+    ghost use Rattle.graph_types.specs.declared.near.Near.{Near};
+
+    type Item = &'a Near;
+
+    type IntoIter = slice::Iter<'a, Near>;
+
+    ghost into_iter_gives = { λ list items. (iter_rest items ≡ list.now) × (length (iter_rest items) < 2 ^ 64) × IterYieldsInOrder Near };
+
+    fn into_iter(self) -> slice::Iter<'a, Near> {
+        self.iter()
+    }
+}
