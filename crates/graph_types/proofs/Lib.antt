@@ -8,6 +8,7 @@ pub mod Members
 pub mod Merging
 pub mod Neighbourhoods
 pub mod Packed
+pub mod Pairs
 pub mod RowChanges
 pub mod Rows
 pub mod Skipping

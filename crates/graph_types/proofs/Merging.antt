@@ -23,11 +23,11 @@ use Rattle.shared_lemmas.proofs.Claims.{all-found, all-weaker}
 use Rattle.shared_lemmas.proofs.FiniteMaps.{map-filter}
 use Rattle.shared_lemmas.proofs.Orderings.{same_item}
 
-abbrev Labels : Type 0
+abbrev pub Labels : Type 0
 Labels = map.FinMap nat_cmp ℕ
 
 -- the vertex is near before or after
-abbrev is_either : Labels → Labels → ℕ → Bool
+abbrev pub is_either : Labels → Labels → ℕ → Bool
 is_either m n v = map.contains_key m v || map.contains_key n v
 
 some_of_either : {A : Type 0} (x y : Option A) → is_some (option_or x y) ≡ (is_some x || is_some y)

@@ -166,6 +166,9 @@ ends_of-map : (m n : map.FinMap nat_cmp ℕ) (ws : List ℕ) → ends_of (mapped
 ends_of-map m n [] = refl
 ends_of-map m n (w ∷ ws) = ap (λ vs. w ∷ vs) (ends_of-map m n ws)
 
+pub ends_of-near_of : (m n : map.FinMap nat_cmp ℕ) → ends_of (near_of m n) ≡ either_near m n
+ends_of-near_of m n = ends_of-map m n (either_near m n)
+
 -- the neighbours in two graphs ascend
 pub near_of-ascends : (m n : map.FinMap nat_cmp ℕ) → IsStrictlySortedBy nat_cmp (ends_of (near_of m n))
-near_of-ascends m n = subst (IsStrictlySortedBy nat_cmp) (sym (ends_of-map m n (either_near m n))) (Lists-either m n).ascending
+near_of-ascends m n = subst (IsStrictlySortedBy nat_cmp) (sym (ends_of-near_of m n)) (Lists-either m n).ascending

@@ -2,6 +2,7 @@ ghost use Rattle.std.specs.Prelude.{◌≡◌, filter, IfOk, IfErr};
 ghost use Rattle.std.specs.FinMap as map;
 ghost use Rattle.std.specs.List.Sorted.{IsStrictlySortedBy};
 ghost use Rattle.std.specs.Ordering.{nat_cmp};
+ghost use Rattle.graph_types.specs.calls.Counts.{next_count};
 ghost use Rattle.graph_types.specs.calls.Views.{CountsHeld, CountsRead};
 ghost use Rattle.graph_types.specs.declared.view.FetchStop.TheVariants as stop;
 ghost use Rattle.graph_types.specs.meaning.Neighbourhood.{kept_among, leads_among, near_of, pair_in};
@@ -47,6 +48,13 @@ impl<'a> TwoSnapshots<'a> {
             reads: 0,
         }
     }
+
+    /// How many reads were made.
+    pub fn reads(&self) -> u64
+        ensures { result ≡ self.now.reads }
+    {
+        self.reads
+    }
 }
 
 impl<'a> GraphView for TwoSnapshots<'a> {
@@ -67,7 +75,7 @@ impl<'a> GraphView for TwoSnapshots<'a> {
         ensures after { self.new.after ≡ self.old.after }
         ensures memory { IfErr result (λ error. error ≡ stop.NoMemory) }
     {
-        self.reads = self.reads.saturating_add(1);
+        self.reads = one_more(self.reads);
         let (before, after) = (self.before.vertex(v), self.after.vertex(v));
         Ok(Pair {
             before: label_of(before),
@@ -92,7 +100,7 @@ impl<'a> GraphView for TwoSnapshots<'a> {
         ensures after { self.new.after ≡ self.old.after }
         ensures memory { IfErr result (λ error. error ≡ stop.NoMemory) }
     {
-        self.reads = self.reads.saturating_add(1);
+        self.reads = one_more(self.reads);
         let (before, after) = (self.before.vertex(v), self.after.vertex(v));
         Ok(Pair {
             before: label_of(before),
@@ -113,6 +121,13 @@ impl<'a> GraphView for TwoSnapshots<'a> {
         let after = degree(self.after.vertex(v));
         Ok(before.max(after))
     }
+}
+
+/// A count that is raised by one, where it doesn't stand at its last value.
+fn one_more(count: u64) -> u64
+    ensures { result ≡ next_count count }
+{
+    count.saturating_add(1)
 }
 
 fn label_of(vertex: Option<&Vertex>) -> Option<LabelId>
