@@ -1,6 +1,6 @@
 use crate::case::{CaseFault, field, number};
 use crate::members::{ShownEdge, read_edge, read_vertex};
-use graph_types::{LabelId, Snapshot};
+use graph_types::{FetchStop, GraphView, LabelId, Pair, Snapshot, TwoSnapshots};
 use line_fields::Names;
 use std::alloc::Global;
 use std::fmt::Write;
@@ -75,6 +75,20 @@ impl Graph {
         Ok(())
     }
 
+    /// `fetch ID` or `fetch ID ID`: what a view of nothing and the graph has at a vertex; with a second one, of its
+    /// neighbours that one alone. Each label is told before and after.
+    pub fn fetch(&self, alloc: Global, text: &str, answer: &mut String) -> Result<(), CaseFault> {
+        let nothing = Snapshot::new(alloc);
+        let mut view = TwoSnapshots::new(&nothing, &self.snapshot);
+        let pair = match text.split_once(' ') {
+            None => view.fetch(alloc, read_vertex(text)?),
+            Some((id, near)) => view.fetch_among(alloc, read_vertex(id)?, &[read_vertex(near)?]),
+        };
+        show_pair(pair, answer)?;
+        write!(answer, ", reads {}", view.reads())?;
+        Ok(())
+    }
+
     /// `label ID` or `label ID ID`
     pub fn label(&self, text: &str, answer: &mut String) -> Result<(), CaseFault> {
         let label = match text.split_once(' ') {
@@ -134,10 +148,32 @@ fn show_fault(fault: &StepFault, answer: &mut String) -> Result<(), CaseFault> {
     Ok(())
 }
 
+fn show_labels(
+    before: Option<LabelId>,
+    after: Option<LabelId>,
+    answer: &mut String,
+) -> Result<(), CaseFault> {
+    show_label(before, answer)?;
+    answer.push_str(" to ")?;
+    show_label(after, answer)
+}
+
 fn show_label(label: Option<LabelId>, answer: &mut String) -> Result<(), CaseFault> {
     match label {
         Some(label) => write!(answer, "={}", label.0)?,
         None => answer.push_str("none")?,
+    }
+    Ok(())
+}
+
+fn show_pair(pair: Result<Pair, FetchStop>, answer: &mut String) -> Result<(), CaseFault> {
+    let Ok(pair) = pair else {
+        return Err(CaseFault::NoMemory);
+    };
+    show_labels(pair.before, pair.after, answer)?;
+    for near in pair.near.as_slice() {
+        write!(answer, ", {} ", near.to.0)?;
+        show_labels(near.before, near.after, answer)?;
     }
     Ok(())
 }

@@ -41,6 +41,7 @@ fn answer<R: Wait>(
         "vertices" => graph.vertices(alloc, answer),
         "edges" => graph.edges(alloc, answer),
         "near" => graph.near(alloc, text, answer),
+        "fetch" => graph.fetch(alloc, text, answer),
         "label" => graph.label(text, answer),
         "words" => fields::words(alloc, text, answer),
         "rest" => fields::rest(alloc, text, answer),
