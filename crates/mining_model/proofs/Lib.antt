@@ -4,3 +4,4 @@ pub mod Ascending
 pub mod ShortLists
 pub mod Listed
 pub mod Histories
+pub mod Differences
