@@ -13,7 +13,7 @@ use Rattle.record_text.specs.meaning.Text.{delta_text, done_text}
 use Rattle.line_fields.specs.meaning.Names.{Names}
 use Rattle.update_reader.specs.meaning.Grammar.{update, content_of_line}
 use Rattle.update_rules.specs.calls.Steps.{IsReason}
-use Rattle.update_rules.specs.declared.StepFault.{StepFault}
+use Rattle.update_rules.specs.declared.steps.StepFault.{StepFault}
 use Rattle.tesseract.specs.declared.miner.Changes.{Changes}
 use Rattle.tesseract.specs.declared.job.Job.{Job}
 use Rattle.tesseract.specs.declared.job.Job.TheVariants.{Heading, Streaming}

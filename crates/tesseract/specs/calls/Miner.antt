@@ -5,7 +5,7 @@ use Rattle.graph_types.specs.declared.update.Update.{Update}
 use Rattle.mining_model.specs.meaning.Step.{step}
 use Rattle.cond_eval.specs.meaning.Patterns.{pattern_of}
 use Rattle.mining_model.specs.meaning.Changes.{removed_pieces, added_pieces}
-use Rattle.update_rules.specs.declared.StepFault.{StepFault}
+use Rattle.update_rules.specs.declared.steps.StepFault.{StepFault}
 use Rattle.update_rules.specs.calls.Steps.{IsReason}
 use Rattle.tesseract.specs.storage.Mining.{MiningState}
 use Rattle.tesseract.specs.declared.miner.Changes.{Changes}

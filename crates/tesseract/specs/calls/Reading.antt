@@ -17,7 +17,7 @@ use Rattle.tesseract.specs.declared.job.Job.{Job}
 use Rattle.tesseract.specs.declared.job.Job.TheVariants.{Heading, Streaming}
 use Rattle.tesseract.specs.declared.job.Stop.{Stop}
 use Rattle.tesseract.specs.declared.job.Stop.TheVariants as stop
-use Rattle.update_rules.specs.declared.StepFault.{StepFault}
+use Rattle.update_rules.specs.declared.steps.StepFault.{StepFault}
 use Rattle.update_rules.specs.calls.Steps.{IsReason}
 use Rattle.tesseract.specs.declared.status.Status.{Status}
 use Rattle.tesseract.specs.declared.status.Status.TheVariants as status

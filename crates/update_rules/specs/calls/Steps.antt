@@ -1,10 +1,10 @@
 -- What a call of `step` does.
-use Rattle.std.specs.Prelude.{◌≡◌, ℕ, Result, Ok, Err, IsOk}
-use Rattle.graph_types.specs.meaning.Graph.{Graph, HasEnds}
+use Rattle.std.specs.Prelude.{◌≡◌, ◌≢◌, ℕ, IsTrue, Result, Ok, Err, IsOk}
+use Rattle.graph_types.specs.meaning.Graph.{Graph, HasEnds, has_vertex}
 use Rattle.graph_types.specs.declared.update.Update.{Update}
 use Rattle.mining_model.specs.meaning.Step.{Refusal, is_loop, no_vertex, vertex_exists, edge_exists, no_edge, at_edge, step}
-use Rattle.update_rules.specs.declared.StepFault.{StepFault}
-use Rattle.update_rules.specs.declared.StepFault.TheVariants as fault
+use Rattle.update_rules.specs.declared.steps.StepFault.{StepFault}
+use Rattle.update_rules.specs.declared.steps.StepFault.TheVariants as fault
 
 -- The fault is the reason for which the graph refuses the step. Out of memory is told only of a step
 -- that the graph does not refuse.
@@ -20,6 +20,17 @@ IsReason stepped fault.NoMemory = IsOk stepped
 abbrev pub Steps : Graph → Update → Result (Unit {0}) StepFault → Graph → Type 0
 Steps old u (Ok done) new = step old u ≡ Ok new
 Steps old u (Err fault) new = (new ≡ old) × IsReason (step old u) fault
+
+-- The graph accepts the step, or the fault is the reason to refuse it.
+abbrev pub Admits : Graph → Update → Result (Unit {0}) StepFault → Type 0
+Admits g u (Ok done) = IsOk (step g u)
+Admits g u (Err fault) = IsReason (step g u) fault
+
+-- two different vertices of the graph
+pub record AreEnds (g : Graph) (from to : ℕ) : Type 0 where
+  pub apart : from ≢ to
+  pub first : IsTrue (has_vertex g from)
+  pub second : IsTrue (has_vertex g to)
 
 -- The two vertices are different and there, so that an update of their edge comes to what it does with
 -- the edge. Else the fault is the reason to refuse each such update.
