@@ -38,7 +38,7 @@ module _ {K : Type 0} {R : K → K → Ordering} (total : IsTotalOrder R) (exact
   there None (Some y) c = refl
   there (Some x) b c = refl
 
-  contains-either : (m n : finite.FinMap R ℕ) (k : K) → finite.contains_key (finite.from_entries {R = R} (finite.entries m ++ finite.entries n)) k ≡ (is_some (finite.get m k) || is_some (finite.get n k))
+  pub contains-either : (m n : finite.FinMap R ℕ) (k : K) → finite.contains_key (finite.from_entries {R = R} (finite.entries m ++ finite.entries n)) k ≡ (is_some (finite.get m k) || is_some (finite.get n k))
   contains-either m n k =
       ap is_some (finite.get-from_entries total (finite.entries m ++ finite.entries n) k)
       ∙ find-append k (finite.entries m) (finite.entries n)

@@ -2,6 +2,10 @@
 //! updates changes, and the changes of each shard.
 #![tactic(auto)]
 
+mod changes;
+mod shards;
 mod steps;
 
+pub use changes::{Change, ChangeList};
+pub use shards::{Part, PartList};
 pub use steps::{StepFault, step};
