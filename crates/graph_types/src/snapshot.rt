@@ -51,6 +51,13 @@ impl Snapshot {
         self.arcs.vertex(v)
     }
 
+    /// Says of a snapshot what is true of each, and does nothing.
+    pub fn simple(&self)
+        ensures { IsSimple self.now }
+    {
+        let _arcs = &self.arcs;
+    }
+
     /// The label of a vertex, or `None` where it isn't there. Takes time logarithmic in the number of
     /// vertices.
     pub fn label(&self, v: VertexId) -> Option<LabelId>

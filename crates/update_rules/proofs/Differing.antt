@@ -29,6 +29,7 @@ use Rattle.shared_lemmas.proofs.Orderings.{same_item, Greater-turned}
 use Rattle.update_rules.specs.meaning.Places.{Place, place_cmp, label_at, entry_at, entry_differs, places_among}
 use Rattle.update_rules.specs.calls.Overlays.{IsOverlaid}
 use Rattle.update_rules.specs.meaning.Parts.{changed_places, changes_between, change_to}
+use Rattle.update_rules.proofs.Lookups.{Lists-passing, member-from_in, member-lookup, own-lookups, map-filter-entries}
 use Rattle.update_rules.proofs.Places.{place_cmp_total, place_cmp-IsAntisymmetric, places_among_rise, IsIn-label, IsIn-near, option_eq-itself, option_eq-turned}
 
 -- an end of an edge that is there is one of its two
@@ -43,7 +44,7 @@ end_first g v w ends =
     min-cases : (x y : ℕ) → (min x y ≡ x) ⊎ (max x y ≡ x)
     min-cases x y = grind arith
 
-end_second : (g : Graph) (v w : ℕ) → HasEnds g (edge_between v w) → IsTrue (has_vertex g w)
+pub end_second : (g : Graph) (v w : ℕ) → HasEnds g (edge_between v w) → IsTrue (has_vertex g w)
 end_second g v w ends =
     elim (max-cases v w) as (λ _. IsTrue (has_vertex g w)) [
       | inl e ↦ subst (λ x. IsTrue (has_vertex g x)) e ends.low
@@ -53,7 +54,7 @@ end_second g v w ends =
     max-cases : (x y : ℕ) → (min x y ≡ y) ⊎ (max x y ≡ y)
     max-cases x y = grind arith
 
-some_side : (a b : Option ℕ) → IsTrue (not (option_eq eqb a b)) → IsTrue (is_some a) ⊎ IsTrue (is_some b)
+pub some_side : (a b : Option ℕ) → IsTrue (not (option_eq eqb a b)) → IsTrue (is_some a) ⊎ IsTrue (is_some b)
 some_side None None d = absurd (false≢true d)
 some_side None (Some y) d = inr refl
 some_side (Some x) b d = inl refl
@@ -61,11 +62,6 @@ some_side (Some x) b d = inl refl
 some_between : (same : Bool) (found : Option ℕ) → IsTrue (is_some (cond same None found)) → IsTrue (is_some found)
 some_between true found h = absurd (false≢true h)
 some_between false found h = h
-
-absorbed : (a b : Bool) → (b ≡ true → a ≡ true) → (a && b) ≡ b
-absorbed true b h = refl
-absorbed false true h = absurd (false≢true (h refl))
-absorbed false false h = refl
 
 module _ (before after : Graph) where
   abbrev vertices : List ℕ
@@ -97,53 +93,14 @@ module _ (before after : Graph) where
     -- the places that differ are those that are listed
     pub Lists-changed_places : Lists place_cmp (entry_differs before after) (changed_places before after)
     Lists-changed_places =
-        let places = places_among vertices in
-        let differs : Place → Bool = entry_differs before after in
-        record {
-          ascending = IsStrictlySortedBy-filter place_cmp differs places (places_among_rise vertices (keys_rise (finite.from_entries {R = nat_cmp} (finite.entries before.labels ++ finite.entries after.labels))));
-          members = λ p.
-              is_member-filter (eq_by_cmp_equiv place_cmp_total) differs p (λ x e. ap differs (same_item place_cmp-IsAntisymmetric p x e)) places
-              ∙ absorbed (is_member (eq_by_cmp place_cmp) places p) (differs p)
-              (λ d. list_any_at (eq_by_cmp place_cmp p) p places (there p.0 p.1 d) ((eq_by_cmp_equiv place_cmp_total).refl p));
-        }
-
--- entries in a map, in order of their places
-
-module _ {X : Type 0} where
-  later_own : (e : Place × X) (all es : List (Place × X)) → AllByRecursion (λ q. place_cmp e.0 q ≡ Less) (keys_of es)
-      → AllByRecursion (λ f. lookup (is_at (place_cmp f.0)) all ≡ Some f.1) es → AllByRecursion (λ f. lookup (is_at (place_cmp f.0)) (e ∷ all) ≡ Some f.1) es
-  later_own e all [] below own = tt
-  later_own e all (f ∷ es) below own =
-      (ap (λ r. cond (is_eq r) (Some e.1) (lookup (is_at (place_cmp f.0)) all)) (Greater-turned place_cmp_total e.0 f.0 below.0) ∙ own.0, later_own e all es below.1 own.1)
-
-  own-lookups : (es : List (Place × X)) → IsStrictlySortedBy place_cmp (keys_of es) → AllByRecursion (λ e. lookup (is_at (place_cmp e.0)) es ≡ Some e.1) es
-  unfolding IsStrictlySortedBy
-  own-lookups [] s = tt
-  own-lookups (e ∷ es) s =
-      (ap (λ r. cond (is_eq r) (Some e.1) (lookup (is_at (place_cmp e.0)) es)) (tied_itself place_cmp_total e.0), later_own e es es s.0 (own-lookups es s.1))
-
--- what is made of the entries that pass a test
-module _ {C : Type 0} (t : Place → Option ℕ → Bool) (h : Place → Option ℕ → C) (f : Place → Option ℕ) where
-  pub map-filter-entries : (es : List (Place × Option ℕ)) → AllByRecursion (λ e. f e.0 ≡ e.1) es → map (λ e. h e.0 e.1) (filter (λ e. t e.0 e.1) es) ≡ map (λ p. h p (f p)) (filter (λ p. t p (f p)) (keys_of es))
-  map-filter-entries [] own = refl
-  map-filter-entries (e ∷ es) own =
-      let rest = map-filter-entries es own.1 in
-      ap (λ x. map (λ d. h d.0 d.1) (cond (t e.0 x) (e ∷ filter (λ d. t d.0 d.1) es) (filter (λ d. t d.0 d.1) es))) (sym own.0)
-      ∙ elim (t e.0 (f e.0)) as (λ b. map (λ d. h d.0 d.1) (cond b (e ∷ filter (λ d. t d.0 d.1) es) (filter (λ d. t d.0 d.1) es)) ≡ map (λ p. h p (f p)) (cond b (e.0 ∷ filter (λ p. t p (f p)) (keys_of es)) (filter (λ p. t p (f p)) (keys_of es)))) [
-        | true ↦ λ i. h e.0 (sym own.0 i) ∷ rest i
-        | false ↦ rest
-      ]
+        Lists-passing place_cmp_total place_cmp-IsAntisymmetric (entry_differs before after) (places_among vertices)
+        (places_among_rise vertices (keys_rise (finite.from_entries {R = nat_cmp} (finite.entries before.labels ++ finite.entries after.labels))))
+        (λ p d. member-from_in place_cmp_total place_cmp-IsAntisymmetric p (places_among vertices) (there p.0 p.1 d))
 
 -- the map has each entry of one graph that the other has not
 module _ (m : BTreeMap Place (Option ℕ)) (ordered : IsStrictlySortedBy place_cmp (keys_of m.entries)) (other own : Graph) (overlaid : IsOverlaid m other own) where
   own_entries : AllByRecursion (λ e. entry_at own e.0 ≡ e.1) m.entries
-  own_entries = all-weaker (λ e. lookup (is_at (place_cmp e.0)) m.entries ≡ Some e.1) (λ e. entry_at own e.0 ≡ e.1) (λ e is. overlaid e.0 ∙ ap (λ o. unwrap_or o (entry_at other e.0)) is) m.entries (own-lookups m.entries ordered)
-
-  member-is : (p : Place) → is_member (eq_by_cmp place_cmp) (keys_of m.entries) p ≡ is_some (get place_cmp m p)
-  member-is p =
-      ap (λ ks. is_member (eq_by_cmp place_cmp) ks p) (sym (keys-seen place_cmp_total m.entries ordered))
-      ∙ sym (finite.contains_key-keys (finite.from_entries {R = place_cmp} m.entries) p)
-      ∙ ap is_some (sym (get-seen place_cmp_total p m.entries))
+  own_entries = all-weaker (λ e. lookup (is_at (place_cmp e.0)) m.entries ≡ Some e.1) (λ e. entry_at own e.0 ≡ e.1) (λ e is. overlaid e.0 ∙ ap (λ o. unwrap_or o (entry_at other e.0)) is) m.entries (own-lookups place_cmp_total m.entries ordered)
 
   same_elsewhere : (p : Place) (o : Option (Option ℕ)) → get place_cmp m p ≡ o → IsTrue (not (option_eq eqb (entry_at own p) (entry_at other p))) → IsTrue (is_some o)
   same_elsewhere p None is d =
@@ -151,13 +108,9 @@ module _ (m : BTreeMap Place (Option ℕ)) (ordered : IsStrictlySortedBy place_c
   same_elsewhere p (Some x) is d = refl
 
   kept_places : (d : Place → Bool) → ((p : Place) → IsTrue (d p) → IsTrue (not (option_eq eqb (entry_at own p) (entry_at other p)))) → Lists place_cmp d (filter d (keys_of m.entries))
-  kept_places d differs = record {
-    ascending = IsStrictlySortedBy-filter place_cmp d (keys_of m.entries) ordered;
-    members = λ p.
-        is_member-filter (eq_by_cmp_equiv place_cmp_total) d p (λ x e. ap d (same_item place_cmp-IsAntisymmetric p x e)) (keys_of m.entries)
-        ∙ absorbed (is_member (eq_by_cmp place_cmp) (keys_of m.entries) p) (d p)
-        (λ t. member-is p ∙ same_elsewhere p (get place_cmp m p) refl (differs p t));
-  }
+  kept_places d differs =
+      Lists-passing place_cmp_total place_cmp-IsAntisymmetric d (keys_of m.entries) ordered
+      (λ p t. member-lookup place_cmp_total m.entries ordered p ∙ same_elsewhere p (get place_cmp m p) refl (differs p t))
 
   pub changes_since-is : IsSimple own → IsSimple other →
       map (λ e. change_to e.0 (entry_at other e.0)) (filter (λ e. not (option_eq eqb e.1 (entry_at other e.0))) m.entries) ≡ changes_between own other

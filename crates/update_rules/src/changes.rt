@@ -42,10 +42,10 @@ pub(crate) fn changes_since(
     earlier: &Entries,
     graph: &Snapshot,
 ) -> Result<ChangeList, NoMemory>
-    requires { IsSimple graph.now }
     ensures { (before : Graph) → IsSimple before → IsOverlaid earlier.now graph.now before →
         IfOk result (λ changes. changes ≡ changes_between before graph.now) }
 {
+    graph.simple();
     let mut changes = ChangeList::new(alloc);
     for (place, was) in earlier {
         let is = entry(graph, *place);
@@ -63,10 +63,10 @@ pub(crate) fn changes_until(
     graph: &Snapshot,
     later: &Entries,
 ) -> Result<ChangeList, NoMemory>
-    requires { IsSimple graph.now }
     ensures { (after : Graph) → IsSimple after → IsOverlaid later.now graph.now after →
         IfOk result (λ changes. changes ≡ changes_between graph.now after) }
 {
+    graph.simple();
     let mut changes = ChangeList::new(alloc);
     for (place, is) in later {
         let was = entry(graph, *place);

@@ -3,9 +3,12 @@
 #![tactic(auto)]
 
 mod changes;
+mod net;
 mod shards;
 mod steps;
+mod writes;
 
 pub use changes::{Change, ChangeList};
-pub use shards::{Part, PartList};
+pub use net::net_of;
+pub use shards::{Part, PartList, parts};
 pub use steps::{StepFault, step};

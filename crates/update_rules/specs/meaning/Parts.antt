@@ -1,5 +1,5 @@
 -- What differs between two graphs, told at each vertex, and parted among shards.
-use Rattle.std.specs.Prelude.{ℕ, ◌%◌, Bool, nat_lt, eqb, List, length, map, filter, Option, None, Some}
+use Rattle.std.specs.Prelude.{ℕ, ◌%◌, Bool, true, false, eqb, List, [], ◌∷◌, map, filter, Option, None, Some}
 use Rattle.std.specs.List.{range_with_len}
 use Rattle.graph_types.specs.meaning.Graph.{Graph}
 use Rattle.mining_model.specs.meaning.NetChange.{keys_of_either}
@@ -37,9 +37,13 @@ shard_of shards change = vertex_of change % shards
 abbrev pub part_of : ℕ → List Change → ℕ → Part
 part_of shards changes shard = record { shard = shard; changes = filter (λ change. eqb (shard_of shards change) shard) changes }
 
+abbrev pub is_some_list : List Change → Bool
+is_some_list [] = false
+is_some_list (change ∷ changes) = true
+
 -- the changes of each shard that has some
 abbrev pub parts_of : ℕ → List Change → List Part
-parts_of shards changes = filter (λ part. nat_lt 0 (length part.changes)) (map (part_of shards changes) (range_with_len 0 shards))
+parts_of shards changes = filter (λ part. is_some_list part.changes) (map (part_of shards changes) (range_with_len 0 shards))
 
 -- what differs between two graphs, shard by shard
 abbrev pub parts_between : Graph → Graph → ℕ → List Part
