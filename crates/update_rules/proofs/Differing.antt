@@ -1,32 +1,25 @@
 -- The places at which two simple graphs differ.
-use Rattle.std.proofs.Common.{◌≡◌, ◌≢◌, ◌<◌, ◌≤◌, ◌⊎◌, ⊎_elim, ℕ, Bool, true, false, not, ◌&&◌, ◌||◌, cond, eqb, IsTrue, List, [], ◌∷◌, ◌++◌, map, filter, Option, None, Some, min, max, unwrap_or, refl, sym, ap, subst, ◌∙◌, inl, inr, arith}
-use Rattle.std.specs.Cmp.{nat_cmp_total, eq_by_cmp_equiv, tied_itself}
+use Rattle.std.proofs.Common.{◌≡◌, ◌⊎◌, ⊎_elim, ℕ, Bool, true, false, not, cond, eqb, IsTrue, List, [], ◌++◌, map, filter, Option, None, Some, min, max, unwrap_or, refl, sym, ap, subst, ◌∙◌, inl, inr, arith}
+use Rattle.std.specs.Cmp.{nat_cmp_total}
 use Rattle.std.specs.FinMap as finite
 use Rattle.std.specs.List.{AllByRecursion}
 use Rattle.std.specs.List.Sorted.{IsStrictlySortedBy}
 use Rattle.std.specs.Map.{keys_of, lookup}
 use Rattle.std.specs.BTreeMap.{BTreeMap, get, is_at}
 use Rattle.std.specs.Option.{is_some, option_eq}
-use Rattle.std.specs.Ordering.{nat_cmp, eq_by_cmp, is_eq}
-use Rattle.std.specs.Set.{is_member}
-use Rattle.std.specs.declared.cmp.Ordering.TheVariants.{Less}
-use Rattle.std.proofs.lemmas.Bool.{false≢true, or_left, or_right, not-true}
+use Rattle.std.specs.Ordering.{nat_cmp}
+use Rattle.std.proofs.lemmas.Bool.{false≢true, or_left, or_right}
 use Rattle.std.proofs.lemmas.List.{append-nil}
-use Rattle.std.proofs.lemmas.List.Kept.{IsStrictlySortedBy-filter}
-use Rattle.std.proofs.lemmas.Map.Made.{is_member-filter}
-use Rattle.graph_types.specs.meaning.Graph.{Graph, HasEnds, has_vertex, has_edge, edge_between, label_between}
+use Rattle.graph_types.specs.meaning.Graph.{Graph, HasEnds, has_vertex, edge_between, label_between}
 use Rattle.graph_types.specs.meaning.Simple.{IsSimple}
 use Rattle.graph_types.specs.storage.Adjacency.{Lists}
 use Rattle.graph_types.proofs.Listing.{same_list}
-use Rattle.graph_types.proofs.Views.{get-seen, keys-seen}
-use Rattle.mining_model.specs.meaning.NetChange.{vertex_differs, keys_of_either}
+use Rattle.mining_model.specs.meaning.NetChange.{keys_of_either}
 use Rattle.mining_model.proofs.Differences.{contains-either}
 use Rattle.shared_lemmas.specs.meaning.Membership.{IsIn}
 use Rattle.shared_lemmas.proofs.Claims.{all-weaker}
-use Rattle.shared_lemmas.proofs.FiniteMaps.{IsIn-keys, keys_rise, map-filter}
-use Rattle.shared_lemmas.proofs.Membership.{list_any_at}
-use Rattle.shared_lemmas.proofs.Orderings.{same_item, Greater-turned}
-use Rattle.update_rules.specs.meaning.Places.{Place, place_cmp, label_at, entry_at, entry_differs, places_among}
+use Rattle.shared_lemmas.proofs.FiniteMaps.{IsIn-keys, keys_rise}
+use Rattle.update_rules.specs.meaning.Places.{Place, place_cmp, entry_at, entry_differs, places_among}
 use Rattle.update_rules.specs.calls.Overlays.{IsOverlaid}
 use Rattle.update_rules.specs.meaning.Parts.{changed_places, changes_between, change_to}
 use Rattle.update_rules.proofs.Lookups.{Lists-passing, member-from_in, member-lookup, own-lookups, map-filter-entries}

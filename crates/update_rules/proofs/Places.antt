@@ -1,18 +1,17 @@
 -- Places in order.
-use Rattle.std.proofs.Common.{◌≡◌, ℕ, eq-eqb, true, false, Bool, IsTrue, not, eqb, List, [], ◌∷◌, ◌++◌, map, Option, None, Some, refl, sym, ap, subst, ◌∙◌, inl, inr, arith}
-use Rattle.std.specs.Cmp.{IsTotalOrder, nat_cmp_total, on_total, then_total, tied_itself, eq_by_cmp_equiv}
+use Rattle.std.proofs.Common.{◌≡◌, ℕ, eq-eqb, true, eqb, List, [], ◌∷◌, map, Option, None, Some, refl, ap, subst, ◌∙◌, inl, inr, arith}
+use Rattle.std.specs.Cmp.{IsTotalOrder, nat_cmp_total, on_total, then_total, tied_itself}
 use Rattle.std.specs.Cmp.Lexicographic.{options_total}
 use Rattle.std.specs.FinMap as finite
 use Rattle.std.specs.List.{AllByRecursion, flat_map}
 use Rattle.std.specs.List.Sorted.{IsStrictlySortedBy}
 use Rattle.std.specs.Option.{option_cmp, option_eq}
 use Rattle.std.specs.Ordering.{nat_cmp, ordering_then}
-use Rattle.std.specs.declared.cmp.Ordering.{Ordering}
 use Rattle.std.specs.declared.cmp.Ordering.TheVariants.{Less, Equal, Greater}
 use Rattle.std.proofs.lemmas.Bool.{false≢true, eqb-true}
 use Rattle.std.proofs.lemmas.Bool.Decides.{nat_tests}
 use Rattle.shared_lemmas.specs.meaning.Membership.{IsIn}
-use Rattle.shared_lemmas.proofs.Ascending.{AllBelow, IsStrictlySortedBy-append, IsStrictlySortedBy-map, sorted-cons, sorted-none}
+use Rattle.shared_lemmas.proofs.Ascending.{IsStrictlySortedBy-append, IsStrictlySortedBy-map, sorted-cons}
 use Rattle.shared_lemmas.proofs.Claims.{all-append}
 use Rattle.shared_lemmas.proofs.Membership.{IsIn-append_left, IsIn-append_right, IsIn-map}
 use Rattle.update_rules.specs.meaning.Places.{Place, place_cmp, places_of, places_among}

@@ -1,11 +1,11 @@
 -- What an update leaves at the entries of a graph.
-use Rattle.std.proofs.Common.{◌≡◌, ◌≢◌, ◌<◌, ◌≤◌, ◌⊎◌, ℕ, Bool, true, false, not, ◌&&◌, ◌||◌, cond, if◌then◌else◌, eqb, IsTrue, List, [], ◌∷◌, Option, None, Some, min, max, unwrap_or, eq-eqb, refl, sym, ap, subst, ◌∙◌, inl, inr, ⊎_elim, arith}
+use Rattle.std.proofs.Common.{◌≡◌, ◌≢◌, ◌<◌, ◌≤◌, ◌⊎◌, ℕ, Bool, true, false, not, ◌&&◌, ◌||◌, cond, if◌then◌else◌, eqb, IsTrue, List, [], ◌∷◌, Option, None, Some, min, max, unwrap_or, eq-eqb, refl, sym, ap, subst, ◌∙◌, ⊎_elim, arith}
 use Rattle.std.specs.BTreeMap.{BTreeMap, get, is_at}
 use Rattle.std.specs.Map.{lookup}
 use Rattle.std.specs.Cmp.{nat_cmp_total}
 use Rattle.std.specs.FinMap as finite
 use Rattle.std.specs.List.{list_any}
-use Rattle.std.specs.Option.{option_cmp, is_some}
+use Rattle.std.specs.Option.{is_some}
 use Rattle.std.specs.Ordering.{eq_by_cmp, is_eq, nat_cmp, ordering_then}
 use Rattle.std.specs.declared.cmp.Ordering.{Ordering}
 use Rattle.std.specs.declared.cmp.Ordering.TheVariants.{Less, Equal, Greater}
@@ -20,7 +20,7 @@ use Rattle.shared_lemmas.proofs.FiniteMaps.{IsIn-keys, get-kept}
 use Rattle.shared_lemmas.proofs.Membership.{IsIn-filter, list_any_at}
 use Rattle.update_rules.proofs.Differing.{end_second}
 use Rattle.update_rules.specs.calls.Overlays.{IsOverlaid}
-use Rattle.update_rules.specs.meaning.Places.{Place, place_cmp, label_at, entry_at}
+use Rattle.update_rules.specs.meaning.Places.{Place, place_cmp, label_at}
 
 -- places that tie
 

@@ -1,7 +1,7 @@
 use Rattle.std.proofs.Common.{eqb, not, sym, ◌∙◌}
 use Rattle.std.specs.Option.{option_eq}
 use Rattle.update_rules.specs.meaning.Parts.{change_to}
-use Rattle.update_rules.specs.meaning.Places.{Place, entry_at}
+use Rattle.update_rules.specs.meaning.Places.{entry_at}
 use Rattle.update_rules.proofs.Differing.{changes_until-is, nothing_to_come}
 use Rattle.update_rules.proofs.changes.changes_until.Goals as goal
 

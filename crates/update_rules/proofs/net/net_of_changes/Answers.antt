@@ -2,7 +2,6 @@ use Rattle.std.proofs.Common.{sym, subst, ap, ◌∙◌}
 use Rattle.std.specs.List.{filter_map}
 use Rattle.std.specs.List.Sorted.{IsStrictlySortedBy}
 use Rattle.std.specs.Ordering.{nat_cmp}
-use Rattle.mining_model.specs.meaning.NetChange.{changed_vertices}
 use Rattle.mining_model.proofs.Differences.{Lists-changed_vertices}
 use Rattle.update_rules.specs.calls.Telling.{edge_told, vertex_told}
 use Rattle.update_rules.proofs.NetOfChanges.{vertices-told, edges-told}

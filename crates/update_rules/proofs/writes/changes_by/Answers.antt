@@ -1,5 +1,4 @@
 use Rattle.mining_model.specs.meaning.Step.{graph_after}
-use Rattle.std.specs.Prelude.{◌≡◌}
 use Rattle.update_rules.proofs.Stepping.{IsSimple-graph_after}
 use Rattle.update_rules.proofs.writes.changes_by.Goals as goal
 

@@ -1,4 +1,4 @@
-use Rattle.std.proofs.Common.{cond, None, Some, ap, ◌∙◌}
+use Rattle.std.proofs.Common.{cond, Some, ap, ◌∙◌}
 use Rattle.std.specs.Ordering.{eq_by_cmp}
 use Rattle.update_rules.specs.meaning.Places.{place_cmp}
 use Rattle.update_rules.proofs.Writing.{IsOverlaid-with_edge, nothing_held}

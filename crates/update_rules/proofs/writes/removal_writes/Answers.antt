@@ -4,7 +4,7 @@ use Rattle.std.specs.Ordering.{eq_by_cmp}
 use Rattle.std.specs.Slice.Iter.{iter_rest}
 use Rattle.std.proofs.lemmas.List.{nil_from_length}
 use Rattle.graph_types.specs.meaning.Graph.{neighbours}
-use Rattle.update_rules.specs.meaning.Places.{Place, place_cmp}
+use Rattle.update_rules.specs.meaning.Places.{place_cmp}
 use Rattle.update_rules.proofs.Writing.{put_each, put_each-is, IsOverlaid-without_vertex}
 use Rattle.update_rules.proofs.writes.removal_writes.Goals as goal
 
