@@ -25,10 +25,10 @@ idle-set accounts seat b mine others j u at =
 idle-snoc : (accounts : List Account) (b : Account) → IsEmptyWhereIdle b → IdleIsEmpty accounts → IdleIsEmpty (accounts ++ b ∷ [])
 idle-snoc accounts b mine others j u at = ⊎_elim (λ before. others j u before) (λ (last : b ≡ u). subst IsEmptyWhereIdle last mine) (at_snoc accounts b u j at)
 
-weight-numbers : {T : Type 0} (number : T → ℕ) (weight : ℕ → ℕ) (tasks : List T) → sum_by weight (map number tasks) ≡ sum_by (λ t. weight (number t)) tasks
-weight-numbers number weight [] = refl
-weight-numbers number weight (t ∷ ts) =
-    omega (arith, sum_by-cons weight (number t) (map number ts), sum_by-cons (λ t. weight (number t)) t ts, weight-numbers number weight ts)
+pub sum_by-map : {A B : Type 0} (f : A → B) (weight : B → ℕ) (xs : List A) → sum_by weight (map f xs) ≡ sum_by (λ x. weight (f x)) xs
+sum_by-map f weight [] = refl
+sum_by-map f weight (x ∷ xs) =
+    omega (arith, sum_by-cons weight (f x) (map f xs), sum_by-cons (λ y. weight (f y)) x xs, sum_by-map f weight xs)
 
 -- where nobody has a part, nothing was put or taken
 total-idle : (f : Account → ℕ) (accounts : List Account) → sum_by (λ a. a.parts) accounts ≡ 0
@@ -69,7 +69,7 @@ module _ {T : Type 0} (number : T → ℕ) where
       even = λ weight.
           let put = total-set (λ (c : Account). sum_by weight c.put) accounts seat a b at in
           let taken = total-set (λ (c : Account). sum_by weight c.taken) accounts seat a b at in
-          omega (arith, held.even weight, sum_by-append weight a.put (map number tasks), weight-numbers number weight tasks, sum_by-append (λ t. weight (number t)) items tasks);
+          omega (arith, held.even weight, sum_by-append weight a.put (map number tasks), sum_by-map number weight tasks, sum_by-append (λ t. weight (number t)) items tasks);
       idle = idle-set accounts seat b (λ none. absurd (omega arith)) held.idle;
     },
     refl,
@@ -84,7 +84,7 @@ module _ {T : Type 0} (number : T → ℕ) where
       even = λ weight.
           let put = total-set (λ (c : Account). sum_by weight c.put) accounts seat a b at in
           let taken = total-set (λ (c : Account). sum_by weight c.taken) accounts seat a b at in
-          omega (arith, held.even weight, sum_by-append weight a.taken (map number tasks), weight-numbers number weight tasks, sum_by-append (λ t. weight (number t)) tasks items);
+          omega (arith, held.even weight, sum_by-append weight a.taken (map number tasks), sum_by-map number weight tasks, sum_by-append (λ t. weight (number t)) tasks items);
       idle = idle-set accounts seat b (λ none. absurd (omega arith)) held.idle;
     },
     refl,

@@ -1,3 +1,5 @@
 pub mod Balances
+pub mod Openings
 pub mod Rounds
+pub mod Settlings
 pub mod ShutWords

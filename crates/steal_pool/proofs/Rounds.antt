@@ -1,8 +1,8 @@
 -- A steal is what its last round does, as the rounds before it only looked.
-use Rattle.std.proofs.Common.{◌≡◌, ℕ, ◌≤◌, false, true, sym, ap, subst, ◌∙◌, inl, inr, ⊎_elim, arith}
+use Rattle.std.proofs.Common.{◌≡◌, ℕ, ◌≤◌, true, sym, ap, subst, ◌∙◌, inl, inr, ⊎_elim, arith}
 use Rattle.steal_pool.specs.meaning.Pool.{ThiefValue}
 use Rattle.steal_pool.specs.calls.Looks.{CountsUp, KeepsCounts, with_counts, with_fed, with_returned}
-use Rattle.steal_pool.specs.calls.Steals.{FindsBothEmpty, OnlyLooks, TakesTask, LearnsOfShut, Steals}
+use Rattle.steal_pool.specs.calls.Steals.{FindsBothEmpty, OnlyLooks, TakesTask, Steals}
 use Rattle.steal_pool.specs.declared.taken.Taken.{Taken}
 use Rattle.steal_pool.specs.declared.taken.Taken.TheVariants.{Task, Shut, Ended}
 

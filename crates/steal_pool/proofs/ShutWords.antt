@@ -1,5 +1,5 @@
 -- Each step on the word that says that the feed is shut keeps its rule.
-use Rattle.std.proofs.Common.{◌≡◌, ◌≢◌, ℕ, zero, suc, Bool, true, false, true≢false, eqb, List, [], ◌∷◌, ◌++◌, set, slice_index, refl, sym, ap, subst, ◌∙◌, ⊎_elim, eqb-true, eq-eqb}
+use Rattle.std.proofs.Common.{◌≡◌, ◌≢◌, ℕ, zero, suc, true, false, true≢false, eqb, List, [], ◌∷◌, set, slice_index, refl, sym, subst, ◌∙◌, ⊎_elim, eqb-true}
 use mathlib.Core.Option.{some, some-injective, some-ne-none}
 use lib.ListN.{get_elem?}
 use Rattle.crossbeam_utils.specs.Register.{Turns, Forks}

@@ -2,3 +2,4 @@
 pub mod Making
 pub mod Looks
 pub mod Steals
+pub mod Settling

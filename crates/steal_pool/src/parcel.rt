@@ -23,6 +23,15 @@ impl<T: Numbered> Model for Parcel<T> {
     ghost invariant = { λ p. p.note ≡ T.number p.task ∷ [] };
 }
 
+impl<T: Numbered> Parcel<T> {
+    pub fn into_task(self) -> T
+        ensures { result ≡ self }
+    {
+        let Parcel { task, note: _ } = self;
+        task
+    }
+}
+
 /// Takes the task out, and puts its note at the end of the list, in constant time.
 pub fn unpack<T: Numbered, R: Wait>(rt: &R, parcel: Parcel<T>, numbers: &mut LinkedList<u64>) -> T
     ensures task { result ≡ parcel }

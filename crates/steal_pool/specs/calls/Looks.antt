@@ -1,5 +1,5 @@
 -- What a thief's look at the deque, or at the queue, does to it.
-use Rattle.std.specs.Prelude.{◌≡◌, ℕ, ◌+◌, ◌-◌, ◌^◌, ◌≤◌, ◌⊎◌, min, [], ◌∷◌, ◌++◌}
+use Rattle.std.specs.Prelude.{◌≡◌, ℕ, ◌+◌, ◌-◌, ◌^◌, ◌≤◌, min, [], ◌∷◌, ◌++◌}
 use Rattle.steal_pool.specs.meaning.Pool.{ThiefValue}
 use Rattle.steal_pool.specs.declared.thief.Look.{Look}
 use Rattle.steal_pool.specs.declared.thief.Look.TheVariants.{Task, Empty, Retry}

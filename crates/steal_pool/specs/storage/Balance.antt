@@ -1,6 +1,6 @@
 -- The rule of the deque, and that of the queue. Each pass has an account: what it put there and what it took, by number, and
 -- how many parts it has of the right to know the whole.
-use Rattle.std.specs.Prelude.{◌≡◌, ℕ, ◌+◌, ◌^◌, List, [], map, sum_by}
+use Rattle.std.specs.Prelude.{◌≡◌, ℕ, ◌+◌, ◌^◌, List, [], sum_by}
 use mathlib.Core.Option.{some}
 use lib.ListN.{get_elem?}
 use Rattle.steal_pool.specs.declared.balance.Account.{Account}

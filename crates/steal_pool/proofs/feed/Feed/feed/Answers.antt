@@ -1,4 +1,3 @@
-use Rattle.std.proofs.Common.{rules}
 use Rattle.steal_pool.proofs.Balances.{puts}
 use Rattle.steal_pool.proofs.feed.Feed.feed.Goals as goal
 

@@ -1,4 +1,4 @@
-use Rattle.std.proofs.Common.{rules, ◌<◌, ◌≡◌, arith}
+use Rattle.std.proofs.Common.{arith}
 use Rattle.steal_pool.proofs.Balances.{puts}
 use Rattle.steal_pool.proofs.thief.Thief.again.Goals as goal
 

@@ -1,4 +1,4 @@
-use Rattle.std.proofs.Common.{◌<◌, ◌≡◌, arith}
+use Rattle.std.proofs.Common.{arith}
 use Rattle.steal_pool.proofs.Balances.{takes, finds_none}
 use Rattle.steal_pool.proofs.thief.Thief.look_at_deque.Goals as goal
 

@@ -1,4 +1,4 @@
-use Rattle.std.proofs.Common.{◌<◌, ◌≡◌, arith}
+use Rattle.std.proofs.Common.{arith}
 use Rattle.steal_pool.proofs.Balances.{takes, finds}
 use Rattle.steal_pool.proofs.thief.Thief.look_at_queue.Goals as goal
 
