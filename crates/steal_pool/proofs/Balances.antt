@@ -56,7 +56,7 @@ module _ {T : Type 0} (number : T → ℕ) where
   pub opens : IsBalanced number [] (opening_account ∷ [])
   opens = record {
     whole = refl;
-    even = λ weight. refl;
+    adds_up = λ weight. refl;
     idle = idle-snoc [] opening_account (λ none. absurd (omega arith)) (λ j u at. absurd (some-ne-none u (sym at)));
   }
 
@@ -66,10 +66,10 @@ module _ {T : Type 0} (number : T → ℕ) where
     b,
     record {
       whole = (let parts = total-set (λ (c : Account). c.parts) accounts seat a b at in let was = held.whole in omega arith);
-      even = λ weight.
+      adds_up = λ weight.
           let put = total-set (λ (c : Account). sum_by weight c.put) accounts seat a b at in
           let taken = total-set (λ (c : Account). sum_by weight c.taken) accounts seat a b at in
-          omega (arith, held.even weight, sum_by-append weight a.put (map number tasks), sum_by-map number weight tasks, sum_by-append (λ t. weight (number t)) items tasks);
+          omega (arith, held.adds_up weight, sum_by-append weight a.put (map number tasks), sum_by-map number weight tasks, sum_by-append (λ t. weight (number t)) items tasks);
       idle = idle-set accounts seat b (λ none. absurd (omega arith)) held.idle;
     },
     refl,
@@ -81,10 +81,10 @@ module _ {T : Type 0} (number : T → ℕ) where
     b,
     record {
       whole = (let parts = total-set (λ (c : Account). c.parts) accounts seat a b at in let was = held.whole in omega arith);
-      even = λ weight.
+      adds_up = λ weight.
           let put = total-set (λ (c : Account). sum_by weight c.put) accounts seat a b at in
           let taken = total-set (λ (c : Account). sum_by weight c.taken) accounts seat a b at in
-          omega (arith, held.even weight, sum_by-append weight a.taken (map number tasks), sum_by-map number weight tasks, sum_by-append (λ t. weight (number t)) tasks items);
+          omega (arith, held.adds_up weight, sum_by-append weight a.taken (map number tasks), sum_by-map number weight tasks, sum_by-append (λ t. weight (number t)) tasks items);
       idle = idle-set accounts seat b (λ none. absurd (omega arith)) held.idle;
     },
     refl,
@@ -95,7 +95,7 @@ module _ {T : Type 0} (number : T → ℕ) where
       let whole : sum_by (λ b. b.parts) accounts ≡ a.parts = held.whole ∙ sym every in
       let put = total-alone (λ b. sum_by weight b.put) accounts seat a at whole (λ b none. ap (sum_by weight) none.0) held.idle in
       let taken = total-alone (λ b. sum_by weight b.taken) accounts seat a at whole (λ b none. ap (sum_by weight) none.1) held.idle in
-      omega (arith, put, taken, held.even weight)
+      omega (arith, put, taken, held.adds_up weight)
 
   pub finds_none : (seat : ℕ) (a : Account) (most : ℕ) → most ≡ 0
       → FindsFew (IsBalanced number) most seat a (a.parts ≡ all_parts → (weight : ℕ → ℕ) → sum_by weight a.put ≡ sum_by weight a.taken)
@@ -109,9 +109,9 @@ module _ {T : Type 0} (number : T → ℕ) where
       let accounts' = set accounts seat left in
       record {
         whole = omega (arith, held.whole, total-set (λ (c : Account). c.parts) accounts seat a left at, sum_by_push (λ (c : Account). c.parts) accounts' right);
-        even = λ weight. omega (
+        adds_up = λ weight. omega (
           arith,
-          held.even weight,
+          held.adds_up weight,
           total-set (λ (c : Account). sum_by weight c.put) accounts seat a left at,
           total-set (λ (c : Account). sum_by weight c.taken) accounts seat a left at,
           sum_by_push (λ (c : Account). sum_by weight c.put) accounts' right,
@@ -128,9 +128,9 @@ module _ {T : Type 0} (number : T → ℕ) where
       let accounts' = set accounts seat both in
       record {
         whole = omega (arith, held.whole, total-set (λ (c : Account). c.parts) accounts seat a both at, total-set (λ (c : Account). c.parts) accounts' other b spent at');
-        even = λ weight. omega (
+        adds_up = λ weight. omega (
           arith,
-          held.even weight,
+          held.adds_up weight,
           total-set (λ (c : Account). sum_by weight c.put) accounts seat a both at,
           total-set (λ (c : Account). sum_by weight c.put) accounts' other b spent at',
           total-set (λ (c : Account). sum_by weight c.taken) accounts seat a both at,

@@ -9,7 +9,7 @@ use Rattle.steal_pool.specs.declared.balance.Account.{Account}
 use Rattle.steal_pool.specs.declared.thief.Look.TheVariants.{Empty}
 use Rattle.steal_pool.specs.storage.Balance.{all_parts}
 use Rattle.steal_pool.specs.storage.Books.{BooksValue}
-use Rattle.steal_pool.specs.calls.Settling.{IsEven, with_thief, WeighsSame, TakesBack, PopsQueue, MovesTo, MovesFromDeque, MovesFromQueue}
+use Rattle.steal_pool.specs.calls.Settling.{AddsUp, with_thief, WeighsSame, TakesBack, PopsQueue, MovesTo, MovesFromDeque, MovesFromQueue}
 use Rattle.steal_pool.proofs.Balances.{sum_by-map}
 
 -- what holds of all of a list holds of its first items
@@ -18,19 +18,19 @@ All-front P xs ys all = subst (All P) (take-append_seam xs ys) (All-take P (leng
 
 -- no thief is back yet
 pub none_back : (books : BooksValue) → TakesBack [] books books
-none_back books = record { same_pool = refl; same_fed = refl; parts = omega arith; even = λ weight. omega arith }
+none_back books = record { same_pool = refl; same_fed = refl; parts = omega arith; adds_up = λ weight. omega arith }
 
 -- one thief more is back
 pub one_more_back : (back : List ThiefValue) (thief : ThiefValue) (first books : BooksValue)
-    → IsEven thief → TakesBack back first books → TakesBack (thief ∷ back) first (with_thief books thief)
-one_more_back back thief first books even before = record {
+    → AddsUp thief → TakesBack back first books → TakesBack (thief ∷ back) first (with_thief books thief)
+one_more_back back thief first books adds_up before = record {
   same_pool = before.same_pool;
   same_fed = before.same_fed;
   parts = (let parts = before.parts in omega arith);
-  even = λ weight. omega (
+  adds_up = λ weight. omega (
     arith,
-    before.even weight,
-    even weight,
+    before.adds_up weight,
+    adds_up weight,
     sum_by-cons (λ (t : ThiefValue). sum_by weight t.taken) thief back,
     sum_by-append weight books.from_deque thief.from_deque,
     sum_by-append weight books.from_queue thief.from_queue,
@@ -41,14 +41,14 @@ one_more_back back thief first books even before = record {
 -- the last of the thieves that are still out is back
 pub back_by_one : (out out' : List ThiefValue) (first books books' : BooksValue) (thief : ThiefValue) (thieves : List ThiefValue)
     → All (λ (t : ThiefValue). t.pool ≡ first.pool) out → (back : List ThiefValue) × (thieves ≡ out ++ back) × TakesBack back first books
-    → out ≡ out' ++ thief ∷ [] → books' ≡ with_thief books thief → IsEven thief
+    → out ≡ out' ++ thief ∷ [] → books' ≡ with_thief books thief → AddsUp thief
     → All (λ (t : ThiefValue). t.pool ≡ first.pool) out' × ((back : List ThiefValue) × (thieves ≡ out' ++ back) × TakesBack back first books')
-back_by_one out out' first books books' thief thieves each before last books_are even = (
+back_by_one out out' first books books' thief thieves each before last books_are adds_up = (
   All-front (λ (t : ThiefValue). t.pool ≡ first.pool) out' (thief ∷ []) (subst (All (λ (t : ThiefValue). t.pool ≡ first.pool)) last each),
   (
     thief ∷ before.0,
     before.1 ∙ (ap (λ l. l ++ before.0) last ∙ append_assoc out' (thief ∷ []) before.0),
-    subst (TakesBack (thief ∷ before.0) first) (sym books_are) (one_more_back before.0 thief first books even before.2),
+    subst (TakesBack (thief ∷ before.0) first) (sym books_are) (one_more_back before.0 thief first books adds_up before.2),
   ),
 )
 
@@ -87,7 +87,7 @@ module _ {T : Type 0} (number : T → ℕ) where
         ap weigh no_queue,
         ap weigh no_back,
         ap (sum_by (λ t. weight (number t))) none_yet,
-        taken.even weight,
+        taken.adds_up weight,
         from_deque.moved weight,
         all_fed weight,
         ap (λ (b : BooksValue). weigh b.from_queue) from_deque.same,

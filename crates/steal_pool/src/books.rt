@@ -40,7 +40,7 @@ impl<T: Numbered> Model for Books<T> {
 }
 
 impl<T: Numbered> Books<T> {
-    ghost use Rattle.steal_pool.specs.calls.Settling.{IsEven, with_thief, WeighsSame, PopsDeque, PopsQueue, MovesFromDeque, MovesFromQueue};
+    ghost use Rattle.steal_pool.specs.calls.Settling.{AddsUp, with_thief, WeighsSame, PopsDeque, PopsQueue, MovesFromDeque, MovesFromQueue};
 
     pub fn open(feed: Feed<T>) -> Books<T>
         ensures books { result ≡ record { pool = feed.pool; parts = result.parts; fed = feed.fed; from_deque = []; from_queue = []; put_back = [] } }
@@ -64,7 +64,7 @@ impl<T: Numbered> Books<T> {
     pub fn add(&mut self, thief: Thief<T>)
         requires { thief.pool ≡ self.old.pool }
         ensures books { self.new ≡ with_thief self.old thief }
-        ensures even { IsEven thief }
+        ensures adds_up { AddsUp thief }
     {
         let Thief {
             stealer: _,

@@ -35,3 +35,6 @@ pub type NumberList = List<u64>;
 
 /// Lists of numbers, in an order that the call says.
 pub type NumberLists = List<NumberList>;
+
+#[cfg(test)]
+mod tests;

@@ -1,5 +1,6 @@
 ghost use Rattle.std.specs.Prelude.{◌≡◌, ◌+◌, ◌<◌, ◌≤◌, false, [], length, IfOk, OnOk};
-ghost use Rattle.steal_pool.specs.calls.Making.{IsNewPool, IsNewThief};
+ghost use Rattle.steal_pool.specs.calls.Making.{IsNewPool, new_feed, new_thief};
+ghost use Rattle.steal_pool.specs.meaning.Pool.{AreAllThieves};
 ghost use Rattle.steal_pool.specs.storage.Balance.{all_parts};
 
 use crate::balance::Part;
@@ -20,26 +21,27 @@ pub fn pool<T: Numbered>(
     room: u32,
 ) -> Result<(Feed<T>, ThiefList<T>), NoMemory>
     requires { 1 ≤ thieves }
-    ensures { IfOk result (λ made. IsNewPool thieves room made.0 made.1) }
+    ensures new { IfOk result (λ made. IsNewPool thieves room made.0 made.1) }
+    ensures all { IfOk result (λ made. AreAllThieves made.0 made.1) }
 {
-    let mut feed = new_feed(alloc, room)?;
+    let mut feed = open_feed(alloc, room)?;
     let mut list = ThiefList::new(alloc);
     for _i in 0..thieves {
-        let thief = new_thief(alloc, &mut feed)?;
+        let thief = add_thief(alloc, &mut feed)?;
         list.push(thief)?;
     }
     Ok((feed, list))
 }
 
 // The feed of a pool that has no thief yet.
-fn new_feed<T: Numbered>(alloc: Global, room: u32) -> Result<Feed<T>, NoMemory>
-    ensures { IfOk result (λ feed. feed ≡ record { pool = feed.pool; thieves = 0; room = room; fed = []; is_shut = false }) }
+fn open_feed<T: Numbered>(alloc: Global, room: u32) -> Result<Feed<T>, NoMemory>
+    ensures { IfOk result (λ feed. feed ≡ new_feed feed.pool 0 room) }
 {
     let deque = DequeOwner::fifo_as(alloc, room as usize)?;
     let (queue, queue_pass) = Queue::new_as(alloc)?;
     let (shut, shut_pass) = ShutWord::ruled(alloc, [0])?;
     let shared = Arc::new(alloc, Shared { queue, shut })?;
-    let notes = new_notes(alloc, room)?;
+    let notes = blank_notes(alloc, room)?;
     Ok(Feed {
         deque,
         shared,
@@ -49,7 +51,7 @@ fn new_feed<T: Numbered>(alloc: Global, room: u32) -> Result<Feed<T>, NoMemory>
     })
 }
 
-fn new_notes(alloc: Global, room: u32) -> Result<LinkedList<u64>, NoMemory>
+fn blank_notes(alloc: Global, room: u32) -> Result<LinkedList<u64>, NoMemory>
     ensures { IfOk result (λ notes. length notes ≡ room) }
 {
     let mut notes = LinkedList::new(alloc);
@@ -59,10 +61,10 @@ fn new_notes(alloc: Global, room: u32) -> Result<LinkedList<u64>, NoMemory>
     Ok(notes)
 }
 
-fn new_thief<T: Numbered>(alloc: Global, feed: &mut Feed<T>) -> Result<Thief<T>, NoMemory>
+fn add_thief<T: Numbered>(alloc: Global, feed: &mut Feed<T>) -> Result<Thief<T>, NoMemory>
     requires { feed.old.thieves + 1 < all_parts }
     ensures feed { OnOk result (feed.new ≡ record feed.old { thieves = feed.old.thieves + 1 }) }
-    ensures thief { IfOk result (IsNewThief feed.old.pool) }
+    ensures thief { IfOk result (λ thief. thief ≡ new_thief feed.old.pool) }
 {
     let stealer = feed.deque.stealer()?;
     let shared = Arc::try_clone(&feed.shared)?;

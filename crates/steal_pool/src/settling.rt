@@ -1,5 +1,6 @@
 ghost use Rattle.std.specs.Prelude.{◌≡◌, length, map, All, IfOk};
 ghost use Rattle.steal_pool.specs.calls.Settling.{TakesBack};
+ghost use Rattle.steal_pool.specs.meaning.Pool.{AreAllThieves};
 ghost use Rattle.steal_pool.specs.meaning.Tasks.{IsSharedOut};
 
 use crate::books::Books;
@@ -26,8 +27,7 @@ pub fn settle<T: Numbered, R: Wait>(
     feed: Feed<T>,
     thieves: ThiefList<T>,
 ) -> Result<Settled<T>, NoMemory>
-    requires all { length thieves ≡ feed.thieves }
-    requires each { All (λ thief. thief.pool ≡ feed.pool) thieves }
+    requires { AreAllThieves feed thieves }
     ensures lists { IfOk result (λ settled. settled.taken ≡ map (λ thief. thief.taken) thieves) }
     ensures shared_out { IfOk result (λ settled. IsSharedOut feed.fed settled.taken (map T.number settled.left)) }
 {

@@ -7,8 +7,8 @@ use Rattle.steal_pool.specs.declared.thief.Look.{Look}
 use Rattle.steal_pool.specs.declared.thief.Look.TheVariants.{Task, Empty, Retry}
 
 -- however numbers are weighed, a thief's list and what it put back weigh what it took from the deque and from the queue
-abbrev pub IsEven : ThiefValue → Type 0
-IsEven thief = (weight : ℕ → ℕ) → sum_by weight thief.taken + sum_by weight thief.put_back ≡ sum_by weight thief.from_deque + sum_by weight thief.from_queue
+abbrev pub AddsUp : ThiefValue → Type 0
+AddsUp thief = (weight : ℕ → ℕ) → sum_by weight thief.taken + sum_by weight thief.put_back ≡ sum_by weight thief.from_deque + sum_by weight thief.from_queue
 
 -- the books once a thief's passes are back
 abbrev pub with_thief : BooksValue → ThiefValue → BooksValue
@@ -28,7 +28,7 @@ pub record TakesBack (thieves : List ThiefValue) (old new : BooksValue) : Type 0
   pub same_pool : new.pool ≡ old.pool
   pub same_fed : new.fed ≡ old.fed
   pub parts : new.parts ≡ old.parts + length thieves
-  pub even : (weight : ℕ → ℕ) → sum_by (λ thief. sum_by weight thief.taken) thieves + sum_by weight new.put_back + (sum_by weight old.from_deque + sum_by weight old.from_queue)
+  pub adds_up : (weight : ℕ → ℕ) → sum_by (λ thief. sum_by weight thief.taken) thieves + sum_by weight new.put_back + (sum_by weight old.from_deque + sum_by weight old.from_queue)
       ≡ sum_by weight new.from_deque + sum_by weight new.from_queue + sum_by weight old.put_back
 
 module _ {T : Type 0} (number : T → ℕ) where

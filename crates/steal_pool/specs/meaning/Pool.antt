@@ -1,5 +1,5 @@
 -- What contracts see of the two sides of a pool. Tasks stand there by their numbers.
-use Rattle.std.specs.Prelude.{ℕ, Bool, List}
+use Rattle.std.specs.Prelude.{◌≡◌, ℕ, Bool, List, map, replicate}
 
 -- Which pool it is: no other has this deque or this queue.
 pub record PoolId : Type 0 where
@@ -26,3 +26,7 @@ pub record ThiefValue : Type 0 where
   pub knows_shut : Bool
   pub empty_deques : ℕ
   pub empty_queues : ℕ
+
+-- these are thieves of the feed's pool, as many as it has
+abbrev pub AreAllThieves : FeedValue → List ThiefValue → Type 0
+AreAllThieves feed thieves = map (λ t. t.pool) thieves ≡ replicate feed.thieves feed.pool

@@ -23,5 +23,5 @@ IdleIsEmpty accounts = (seat : ℕ) (a : Account) → get_elem? accounts seat �
 -- What was put is what was taken and what is there, however the numbers are weighed.
 pub record IsBalanced {T : Type 0} (number : T → ℕ) (tasks : List T) (accounts : List Account) : Type 0 where
   pub whole : sum_by (λ a. a.parts) accounts ≡ all_parts
-  pub even : (weight : ℕ → ℕ) → sum_by (λ a. sum_by weight a.put) accounts ≡ sum_by (λ a. sum_by weight a.taken) accounts + sum_by (λ t. weight (number t)) tasks
+  pub adds_up : (weight : ℕ → ℕ) → sum_by (λ a. sum_by weight a.put) accounts ≡ sum_by (λ a. sum_by weight a.taken) accounts + sum_by (λ t. weight (number t)) tasks
   pub idle : IdleIsEmpty accounts

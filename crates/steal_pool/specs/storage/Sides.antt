@@ -23,4 +23,4 @@ pub record IsThief (deque queue : Account) (notice : Notice) (taken : List ℕ) 
   pub only_takes : deque.put ≡ []
   pub only_reads : notice.sets ≡ false
   pub told : notice.knows ≡ knows_shut
-  pub even : (weight : ℕ → ℕ) → sum_by weight taken + sum_by weight queue.put ≡ sum_by weight deque.taken + sum_by weight queue.taken
+  pub adds_up : (weight : ℕ → ℕ) → sum_by weight taken + sum_by weight queue.put ≡ sum_by weight deque.taken + sum_by weight queue.taken

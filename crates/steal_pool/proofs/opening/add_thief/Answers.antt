@@ -3,7 +3,7 @@ use Rattle.steal_pool.specs.meaning.Pool.{FeedValue}
 use Rattle.steal_pool.proofs.Balances as balances
 use Rattle.steal_pool.proofs.ShutWords as words
 use Rattle.steal_pool.specs.declared.balance.Account.{Account}
-use Rattle.steal_pool.proofs.opening.new_thief.Goals as goal
+use Rattle.steal_pool.proofs.opening.add_thief.Goals as goal
 
 pub another-deque_pass-requires : goal.another-deque_pass-requires
 another-deque_pass-requires g c =
