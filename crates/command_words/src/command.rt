@@ -1,3 +1,5 @@
+use thiserror::Error;
+
 /// What the program is to do.
 #[derive(Clone, Copy, Debug, PartialEq, Eq)]
 pub enum Verb {
@@ -22,11 +24,13 @@ pub struct Command {
 }
 
 /// Why some words are no command.
-#[derive(Clone, Copy, Debug, PartialEq, Eq)]
+#[derive(Clone, Copy, Debug, PartialEq, Eq, Error)]
 pub enum WordsFault {
     /// There is no word, the first one names no command, or the others aren't options that the command
     /// has, each at most once and with a value that it takes.
+    #[error("the words are no command")]
     Usage,
     /// Memory ran out.
+    #[error("out of memory")]
     NoMemory,
 }

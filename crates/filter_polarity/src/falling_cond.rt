@@ -4,6 +4,7 @@ ghost use Rattle.filter_polarity.specs.meaning.Polarity.{is_falling};
 use conditions::Cond;
 use graph_types::Mode;
 use std::marker::Model;
+use thiserror::Error;
 
 /// A condition that is falling in its mode: where it holds of a picture, it holds of each part of it.
 #[derive(Debug, Drop)]
@@ -29,7 +30,8 @@ impl Model for Falling {
 }
 
 /// A condition that isn't falling in the mode that was asked.
-#[derive(Debug, Drop)]
+#[derive(Debug, Drop, Error)]
+#[error("the condition is not falling in this mode")]
 pub struct NotFalling {
     pub cond: Cond,
 }

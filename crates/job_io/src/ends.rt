@@ -5,12 +5,16 @@ ghost use Rattle.job_io.specs.declared.ends.Failed.{Failed};
 ghost use Rattle.job_io.specs.calls.Ends.{HasCause, HasRisen, Puts};
 ghost use Rattle.job_io.specs.calls.WriteCalls.{WritesAll};
 
+use thiserror::Error;
+
 /// The system refused a read or a write. Nothing was read or written by the call.
-#[derive(Clone, Copy, Debug, PartialEq, Eq)]
+#[derive(Clone, Copy, Debug, PartialEq, Eq, Error)]
+#[error("the system refused to read or write")]
 pub struct Failed;
 
 /// A sink failed before all bytes were out.
-#[derive(Clone, Copy, Debug, PartialEq, Eq)]
+#[derive(Clone, Copy, Debug, PartialEq, Eq, Error)]
+#[error("the output could not be written")]
 pub struct WriteFault;
 
 impl From<Failed> for WriteFault {

@@ -12,18 +12,22 @@ use graph_types::NoMemory;
 use memchr::memchr;
 use std::alloc::Global;
 use std::marker::Model;
+use thiserror::Error;
 
 // The most bytes that a line may have before its LF.
 const MOST_LINE_BYTES: usize = 4096;
 
 /// Why no further line came.
-#[derive(Clone, Copy, Debug, PartialEq, Eq)]
+#[derive(Clone, Copy, Debug, PartialEq, Eq, Error)]
 pub enum LineFault {
     /// The source failed.
+    #[error("the input could not be read")]
     ReadFault,
     /// The line of this number, counted from 1, has more than 4,096 bytes.
+    #[error("line {0}: it has more than 4,096 bytes")]
     TooLong(u64),
     /// The source goes on after the last line allowed; the number is that of the next one.
+    #[error("line {0}: it is one more than are allowed")]
     TooMany(u64),
 }
 

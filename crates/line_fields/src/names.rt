@@ -10,6 +10,7 @@ use graph_types::{LabelId, NoMemory};
 use indexmap::IndexSet;
 use std::alloc::Global;
 use std::marker::Model;
+use thiserror::Error;
 
 /// How many names there can be, `_` among them.
 pub const MOST_NAMES: usize = 4_096;
@@ -18,11 +19,13 @@ pub const MOST_NAMES: usize = 4_096;
 pub const NO_NAME: &[u8] = b"_";
 
 /// Why a name gets no number.
-#[derive(Clone, Copy, Debug, PartialEq, Eq)]
+#[derive(Clone, Copy, Debug, PartialEq, Eq, Error)]
 pub enum NameFault {
     /// The name is new, and there is no room for one more.
+    #[error("there are as many labels as are allowed")]
     TooManyLabels,
     /// An allocation was refused.
+    #[error("out of memory")]
     NoMemory,
 }
 

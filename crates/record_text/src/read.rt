@@ -6,6 +6,7 @@ ghost use Rattle.record_text.specs.meaning.Grammar.{edge_said, member_of, piece_
 
 use graph_types::{Edge, Member, Mode, Piece, Stamp};
 use line_fields::{is_nothing, read_id, read_number, rest, word};
+use thiserror::Error;
 
 /// What a line of a text of records says.
 #[derive(Clone, Copy, Debug, PartialEq, Eq)]
@@ -21,7 +22,8 @@ pub enum RecordLine {
 }
 
 /// The line is in none of the forms of a record.
-#[derive(Clone, Copy, Debug, PartialEq, Eq)]
+#[derive(Clone, Copy, Debug, PartialEq, Eq, Error)]
+#[error("the line is no record")]
 pub struct BadRecord;
 
 /// The most digits of a timestamp.

@@ -13,6 +13,7 @@ use keyword::{Keyword, read_keyword};
 use line_fields::{NO_NAME, is_label, is_nothing, read_id, word, words};
 pub use line_fields::{NameFault, Names};
 use std::alloc::Global;
+use thiserror::Error;
 
 /// What a line says.
 #[derive(Clone, Copy, Debug, PartialEq, Eq)]
@@ -25,13 +26,16 @@ pub enum Item {
 }
 
 /// Why a line says nothing that counts.
-#[derive(Clone, Copy, Debug, PartialEq, Eq)]
+#[derive(Clone, Copy, Debug, PartialEq, Eq, Error)]
 pub enum UpdateFault {
     /// The line is in none of the forms.
+    #[error("the line is no update")]
     BadLine,
     /// The label of the update is new, and there is no room for its name.
+    #[error("there are as many labels as are allowed")]
     TooManyLabels,
     /// An allocation was refused.
+    #[error("out of memory")]
     NoMemory,
 }
 
