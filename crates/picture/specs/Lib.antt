@@ -1,2 +1,3 @@
+pub use Rattle.mining_model.specs.meaning.Connected
 pub mod meaning
 pub mod storage

@@ -1,3 +1,4 @@
+pub use Rattle.mining_model.specs.meaning.History
 pub use Rattle.mining_model.specs.meaning.Step
 pub use Rattle.mining_model.specs.meaning.NetChange
 pub mod meaning
