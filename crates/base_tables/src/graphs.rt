@@ -1,6 +1,6 @@
 use crate::case::{CaseFault, field, number};
 use crate::members::{ShownEdge, read_edge, read_vertex};
-use graph_types::{FetchStop, GraphView, LabelId, Pair, Snapshot, TwoSnapshots};
+use graph_types::{FetchStop, GraphView, LabelId, Pair, Refusal, Snapshot, TwoSnapshots};
 use line_fields::Names;
 use std::alloc::Global;
 use std::fmt::Write;
@@ -37,8 +37,8 @@ impl Graph {
         answer: &mut String,
     ) -> Result<(), CaseFault> {
         match self.step(alloc, text)? {
-            Ok(()) => answer.push_str("made")?,
-            Err(fault) => show_fault(&fault, answer)?,
+            None => answer.push_str("made")?,
+            Some(why) => show_refusal(&why, answer)?,
         }
         Ok(())
     }
@@ -119,7 +119,7 @@ impl Graph {
             let place = turn.wrapping_mul(stride).checked_rem(count).unwrap_or(0);
             let id = place.wrapping_mul(times).wrapping_add(plus);
             let line = with_number(alloc, text, id)?;
-            if self.step(alloc, line.as_str())?.is_ok() {
+            if self.step(alloc, line.as_str())?.is_none() {
                 accepted = accepted.wrapping_add(1);
             }
         }
@@ -127,23 +127,27 @@ impl Graph {
         Ok(())
     }
 
-    fn step(&mut self, alloc: Global, text: &str) -> Result<Result<(), StepFault>, CaseFault> {
+    /// Makes the update of a line, or tells why the graph refuses it.
+    fn step(&mut self, alloc: Global, text: &str) -> Result<Option<Refusal>, CaseFault> {
         match read_line(alloc, text.as_bytes(), &mut self.names) {
-            Ok(Item::Update(update)) => Ok(step(&mut self.snapshot, &update)),
+            Ok(Item::Update(update)) => match step(&mut self.snapshot, &update) {
+                Ok(()) => Ok(None),
+                Err(StepFault::Refused(why)) => Ok(Some(why)),
+                Err(StepFault::NoMemory) => Err(CaseFault::NoMemory),
+            },
             Err(UpdateFault::NoMemory) => Err(CaseFault::NoMemory),
             _ => Err(CaseFault::BadCase),
         }
     }
 }
 
-fn show_fault(fault: &StepFault, answer: &mut String) -> Result<(), CaseFault> {
-    match fault {
-        StepFault::Loop => answer.push_str("Loop")?,
-        StepFault::NoVertex(id) => write!(answer, "NoVertex {}", id.0)?,
-        StepFault::VertexExists => answer.push_str("VertexExists")?,
-        StepFault::EdgeExists => answer.push_str("EdgeExists")?,
-        StepFault::NoEdge => answer.push_str("NoEdge")?,
-        StepFault::NoMemory => return Err(CaseFault::NoMemory),
+fn show_refusal(why: &Refusal, answer: &mut String) -> Result<(), CaseFault> {
+    match why {
+        Refusal::Loop => answer.push_str("Loop")?,
+        Refusal::NoVertex(id) => write!(answer, "NoVertex {}", id.0)?,
+        Refusal::VertexExists => answer.push_str("VertexExists")?,
+        Refusal::EdgeExists => answer.push_str("EdgeExists")?,
+        Refusal::NoEdge => answer.push_str("NoEdge")?,
     }
     Ok(())
 }

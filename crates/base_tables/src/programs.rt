@@ -4,7 +4,9 @@ use crate::text::{Shown, read_text};
 use crate::updates::show_new_names;
 use job_io::{ByteList, LineList};
 use line_fields::Names;
-use program_grammar::{HeaderReader, HeaderStep, ProgramFault, Word, read_program, write_program};
+use program_grammar::{
+    HeaderReader, HeaderStep, ProgramFault, ProgramKind, Word, read_program, write_program,
+};
 use std::alloc::Global;
 use std::fmt::Write;
 
@@ -116,27 +118,20 @@ fn show_lines(lines: &[ByteList], answer: &mut String) -> Result<(), CaseFault> 
 }
 
 fn show_fault(fault: ProgramFault, answer: &mut String) -> Result<(), CaseFault> {
-    let (kind, line) = match fault {
-        ProgramFault::BadLine(line) => ("BadLine", line),
-        ProgramFault::SizeRange(line) => ("SizeRange", line),
-        ProgramFault::TooDeep(line) => ("TooDeep", line),
-        ProgramFault::TooLong(line) => ("TooLong", line),
-        ProgramFault::NotFalling(line) => ("NotFalling", line),
-        ProgramFault::Missing(word) => return show_missing(word, answer),
-        ProgramFault::NoMemory => return Err(CaseFault::NoMemory),
-    };
-    write!(answer, "line {line}: {kind}")?;
-    Ok(())
+    match fault {
+        ProgramFault::Refused {
+            kind: ProgramKind::Missing(word),
+            ..
+        } => show_missing(word, answer),
+        ProgramFault::Refused { line, kind } => {
+            write!(answer, "line {line}: {kind:?}")?;
+            Ok(())
+        }
+        ProgramFault::NoMemory => Err(CaseFault::NoMemory),
+    }
 }
 
 fn show_missing(word: Word, answer: &mut String) -> Result<(), CaseFault> {
-    answer.push_str("Missing ")?;
-    answer.push_str(match word {
-        Word::Mode => "mode",
-        Word::Size => "size",
-        Word::Filter => "filter",
-        Word::Match => "match",
-        Word::Begin => "begin",
-    })?;
+    write!(answer, "Missing {word}")?;
     Ok(())
 }

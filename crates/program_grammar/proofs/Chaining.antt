@@ -7,19 +7,19 @@ use Rattle.conditions.specs.declared.condition.Cond.TheViews.{roll-Cond}
 use Rattle.conditions.specs.declared.condition.Factor.{Factor}
 use Rattle.program_grammar.specs.declared.fault.ReadError.{ReadError}
 use Rattle.program_grammar.specs.declared.fault.ReadError.TheVariants as error
-use Rattle.program_grammar.specs.declared.fault.Refusal.{Refusal}
-use Rattle.program_grammar.specs.declared.fault.Refusal.TheVariants.{BadLine, TooDeep}
+use Rattle.program_grammar.specs.declared.fault.ProgramKind.{ProgramKind}
+use Rattle.program_grammar.specs.declared.fault.ProgramKind.TheVariants.{BadLine, TooDeep}
 use Rattle.program_grammar.specs.meaning.Token.{Token, word, opening, closing, plus}
 use Rattle.program_grammar.specs.meaning.Grammar.{Production, ReadResult, Nested, ◌>>=◌, tokens_after, if_present, or_bad_line, tokens_past, use_of, more_uses, chain, comparison, atom, neg, and_chain, conj, or_chain, cond_within, nested_within}
 use Rattle.program_grammar.specs.calls.Reading.{TakesTokens, ReaderState, MissesToken, PassesToken, ReadsProduction, ReadsUse}
 
 -- what a call answered that passes an error on
 pub Reads-err : {A B : Type 0} → (r : Result B ReadError) (e : ReadError) (old new : ReaderState) (a : ReadResult A) (b : ReadResult B)
-    → r ≡ Err e → ReadsProduction {A = A} (Err e) old a → ((f : Refusal) → a ≡ Err f → b ≡ Err f) → ReadsProduction r new b
+    → r ≡ Err e → ReadsProduction {A = A} (Err e) old a → ((f : ProgramKind) → a ≡ Err f → b ≡ Err f) → ReadsProduction r new b
 Reads-err {A} {B} r error.NoMemory old new a b is reads leads = subst (λ r. ReadsProduction {A = B} r new b) (sym is) tt
 Reads-err {A} {B} r (error.Refused f) old new a b is reads leads = subst (λ r. ReadsProduction {A = B} r new b) (sym is) (leads f reads)
 
-pub Reads-refused : {B : Type 0} → (r : Result B ReadError) (f : Refusal) (new : ReaderState) (b : ReadResult B) → r ≡ Err (error.Refused f) → b ≡ Err f → ReadsProduction r new b
+pub Reads-refused : {B : Type 0} → (r : Result B ReadError) (f : ProgramKind) (new : ReaderState) (b : ReadResult B) → r ≡ Err (error.Refused f) → b ≡ Err f → ReadsProduction r new b
 Reads-refused {B} r f new b is reads = subst (λ r. ReadsProduction {A = B} r new b) (sym is) reads
 
 -- uses
@@ -38,7 +38,7 @@ more_uses-more (suc room) sum ts rest later names after u some next read =
     ∙ ap (λ r. r >>= λ u. more_uses room (sum ++ u.0 ∷ []) u.1 u.2) read
     ∙ ap (λ n. more_uses n (sum ++ u ∷ []) later after) (let e : room ≡ suc room - 1 = omega arith in e)
 
-pub more_uses-fail : (room : ℕ) (sum : List Factor) (ts rest : List Token) (names : Names) (f : Refusal) → tokens_after plus ts ≡ Some rest
+pub more_uses-fail : (room : ℕ) (sum : List Factor) (ts rest : List Token) (names : Names) (f : ProgramKind) → tokens_after plus ts ≡ Some rest
     → ((room ≡ 0) × (f ≡ BadLine)) ⊎ ((0 < room) × (use_of rest names ≡ Err f)) → more_uses room sum ts names ≡ Err f
 unfolding more_uses
 more_uses-fail zero sum ts rest names f next (inl full) = ap (λ o. if_present o (λ _. Err BadLine) (Ok (sum, ts, names))) next ∙ ap Err (sym full.1)
@@ -85,7 +85,7 @@ module _ (joint : Token) (join : Cond → Cond → Cond) (item : Production Cond
       ∙ ap (λ r. r >>= λ c. chain joint join item turns (join left c.0) c.1 c.2) read
       ∙ ap (λ n. chain joint join item n (join left c) later after) (let e : turns ≡ suc turns - 1 = omega arith in e)
 
-  pub chain-fail : (turns : ℕ) (left : Cond) (ts rest : List Token) (names : Names) (f : Refusal) → length ts ≤ turns → tokens_after joint ts ≡ Some rest → item rest names ≡ Err f
+  pub chain-fail : (turns : ℕ) (left : Cond) (ts rest : List Token) (names : Names) (f : ProgramKind) → length ts ≤ turns → tokens_after joint ts ≡ Some rest → item rest names ≡ Err f
       → chain joint join item turns left ts names ≡ Err f
   unfolding chain
   chain-fail zero left ts rest names f enough next read = absurd (behind-some joint ts rest next enough)
@@ -104,7 +104,7 @@ module _ (joint : Token) (join : Cond → Cond → Cond) (item : Production Cond
         chain-more joint join item turns left c old.tokens mid.tokens new.tokens old.names new.names enough passes.passed (ap (item mid.tokens) (sym passes.names) ∙ read)
         ∙ ap (λ x. chain joint join item (turns - 1) x new.tokens new.names) (sym later_is)
 
-    pub chain_fail : (f : Refusal) → item mid.tokens mid.names ≡ Err f → chain joint join item turns left old.tokens old.names ≡ Err f
+    pub chain_fail : (f : ProgramKind) → item mid.tokens mid.names ≡ Err f → chain joint join item turns left old.tokens old.names ≡ Err f
     chain_fail f read = chain-fail joint join item turns left old.tokens mid.tokens old.names f enough passes.passed (ap (item mid.tokens) (sym passes.names) ∙ read)
 
 -- What is left of a chain to read, after what was read so far, gives what the whole gives.
@@ -159,7 +159,7 @@ module _ (c : Cond) (old new : ReaderState) where
   closed-passed passes =
       ap (λ o. or_bad_line o >>= λ end. Ok (c, end, old.names)) passes.passed ∙ ap (λ ns. Ok (c, new.tokens, ns)) (sym passes.names)
 
-  pub closed-missed : (f : Refusal) → f ≡ BadLine → MissesToken closing old new → closed (c, old.tokens, old.names) ≡ Err f
+  pub closed-missed : (f : ProgramKind) → f ≡ BadLine → MissesToken closing old new → closed (c, old.tokens, old.names) ≡ Err f
   closed-missed f is misses = ap (λ o. or_bad_line o >>= λ end. Ok (c, end, old.names)) misses.missed ∙ ap Err (sym is)
 
 pub neg-opened : (room left : ℕ) (old new : ReaderState) → room ≡ left + 1 → PassesToken (word (codes "not")) old new

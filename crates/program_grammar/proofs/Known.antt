@@ -12,7 +12,7 @@ use Rattle.conditions.specs.declared.condition.Term.{Term}
 use Rattle.conditions.specs.declared.condition.Term.TheVariants as term
 use Rattle.conditions.specs.meaning.Written.{most_factors, most_depth}
 use Rattle.conditions.proofs.Forms.{of_form, by_form}
-use Rattle.program_grammar.specs.declared.fault.Refusal.TheVariants.{TooDeep}
+use Rattle.program_grammar.specs.declared.fault.ProgramKind.TheVariants.{TooDeep}
 use Rattle.program_grammar.specs.declared.term_name.TermName.{TermName}
 use Rattle.program_grammar.specs.meaning.Token.{Token, word, plus}
 use Rattle.program_grammar.specs.meaning.Grammar.{Production, Nested, tokens_after, label, label_number_by, named_term, optional_label, two_labels, term_after_name, term_of, use_of, more_uses, sum_of, comparison, neg, chain, and_chain, conj, or_chain, cond_within, nested_within, nothing_after, condition, condition_of}

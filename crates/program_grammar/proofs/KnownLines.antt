@@ -6,8 +6,8 @@ use Rattle.line_fields.specs.meaning.Names.{Names}
 use Rattle.conditions.specs.declared.condition.Cond.{Cond}
 use Rattle.filter_polarity.specs.meaning.Polarity.{is_falling}
 use Rattle.filter_polarity.specs.meaning.Program.{FallingValue, ProgramValue}
-use Rattle.program_grammar.specs.declared.fault.Refusal.{Refusal}
-use Rattle.program_grammar.specs.declared.fault.Refusal.TheVariants.{BadLine, NotFalling}
+use Rattle.program_grammar.specs.declared.fault.ProgramKind.{ProgramKind}
+use Rattle.program_grammar.specs.declared.fault.ProgramKind.TheVariants.{BadLine, NotFalling}
 use Rattle.program_grammar.specs.declared.header.HeaderReader.{HeaderReader}
 use Rattle.program_grammar.specs.declared.header.HeaderReader.TheVariants as header
 use Rattle.program_grammar.specs.declared.header.HeaderStep.{HeaderStep}
@@ -92,17 +92,17 @@ abbrev KnownJudged : ProgramOutcome → Type 0
 KnownJudged (Ok p, after) = KnownProgram after p
 KnownJudged (Err f, after) = Unit {0}
 
-judged-known : (later : HeaderReader → Names → ProgramOutcome) (n : ℕ) (names : Names) (said : Result (HeaderStep × Names) Refusal) → ((next : HeaderReader) (after : Names) → KnownSoFar next after → KnownJudged (later next after))
+judged-known : (later : HeaderReader → Names → ProgramOutcome) (n : ℕ) (names : Names) (said : Result (HeaderStep × Names) ProgramKind) → ((next : HeaderReader) (after : Names) → KnownSoFar next after → KnownJudged (later next after))
     → ((x : HeaderStep × Names) → said ≡ Ok x → KnownStep x) → KnownJudged (outcome_after_line later n names said)
 judged-known later n names (Ok (More next, after)) behind known = behind next after (known (More next, after) refl)
 judged-known later n names (Ok (Ready p, after)) behind known = known (Ready p, after) refl
-judged-known later n names (Err f) behind known = tt
+judged-known later n names (Err kind) behind known = tt
 
 lines-known : (lines : List (List ℕ)) (h : HeaderReader) (n : ℕ) (names : Names) → KnownSoFar h names → KnownJudged (lines_said h n lines names)
 lines-known [] h n names known = tt
 lines-known (line ∷ lines) h n names known =
-    judged-known (λ next after. lines_said next (n + 1) lines after) n names (header_said h line names) (λ next after later. lines-known lines next (n + 1) after later) (λ x e. line-known h line names x known e)
+    judged-known (λ next after. lines_said next (n + 1) lines after) (n + 1) names (header_said h line names) (λ next after later. lines-known lines next (n + 1) after later) (λ x e. line-known h line names x known e)
 
 -- a program that was read can be written with the names then
 pub program-known : (lines : List (List ℕ)) (names after : Names) (p : ProgramValue) → program_said lines names ≡ (Ok p, after) → KnownProgram after p
-program-known lines names after p said = subst KnownJudged said (lines-known lines header.Mode 1 names tt)
+program-known lines names after p said = subst KnownJudged said (lines-known lines header.Mode 0 names tt)

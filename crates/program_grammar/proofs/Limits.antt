@@ -15,7 +15,7 @@ use Rattle.conditions.specs.declared.condition.Op.{Op}
 use Rattle.conditions.specs.declared.condition.Term.{Term}
 use Rattle.conditions.specs.declared.condition.Term.TheVariants as term
 use Rattle.conditions.specs.meaning.Written.{WrittenSize, written_size, written_size_by, tokens_at, depth_at, parentheses_needed, term_tokens, factor_tokens, sum_tokens, are_numbers_within, are_numbers_within_of, IsWithinLimits, most_times, most_bound, most_factors, most_depth, most_tokens}
-use Rattle.program_grammar.specs.declared.fault.Refusal.TheVariants.{TooDeep}
+use Rattle.program_grammar.specs.declared.fault.ProgramKind.TheVariants.{TooDeep}
 use Rattle.program_grammar.specs.declared.term_name.TermName.{TermName}
 use Rattle.program_grammar.specs.meaning.Token.{Token, is_same_token, bytes_in, digits_in, op_in, word, opening, closing, comma, plus, times}
 use Rattle.program_grammar.specs.meaning.Grammar.{Production, Nested, ◌>>=◌, tokens_after, or_bad_line, tokens_past, first_of, at_most, value_up_to, label, bound, operator, term_name, named_term, optional_label, two_labels, term_after_name, term_of, factor, factor_by, use_of, more_uses, sum_of, comparison, neg, chain, and_chain, conj, or_chain, cond_within, nested_within, nothing_after, condition, condition_of}

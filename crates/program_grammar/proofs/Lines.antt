@@ -9,36 +9,36 @@ use Rattle.filter_polarity.specs.meaning.Program.{FallingValue}
 use Rattle.conditions.specs.meaning.Written.{most_tokens}
 use Rattle.program_grammar.specs.declared.fault.ReadError.{ReadError}
 use Rattle.program_grammar.specs.declared.fault.ReadError.TheVariants as error
-use Rattle.program_grammar.specs.declared.fault.Refusal.{Refusal}
-use Rattle.program_grammar.specs.declared.fault.Refusal.TheVariants.{NotFalling}
+use Rattle.program_grammar.specs.declared.fault.ProgramKind.{ProgramKind}
+use Rattle.program_grammar.specs.declared.fault.ProgramKind.TheVariants.{NotFalling}
 use Rattle.program_grammar.specs.meaning.Grammar.{◌>>=◌}
 use Rattle.program_grammar.specs.meaning.Header.{condition_after_word, filter_of, if_falling}
 use Rattle.program_grammar.specs.calls.Answers.{AnswersReading, FewNames, HasRoom, RunsOut}
 use Rattle.program_grammar.specs.calls.Reading.{AddsFirst, RefusesAs, AddsNames, Parses}
 
 -- names that are as they were
-pub Starves-unchanged : {A : Type 0} (names : Names) (said : Result (A × Names) Refusal) → RunsOut names said names
+pub Starves-unchanged : {A : Type 0} (names : Names) (said : Result (A × Names) ProgramKind) → RunsOut names said names
 Starves-unchanged names (Ok read) = inl refl
 Starves-unchanged names (Err f) = refl
 
-pub Starves-labels : {A : Type 0} (names labels new : Names) (said : Result (A × Names) Refusal) (x : A) → said ≡ Ok (x, names ++ labels) → length labels ≤ most_tokens → AddsFirst labels names new
+pub Starves-labels : {A : Type 0} (names labels new : Names) (said : Result (A × Names) ProgramKind) (x : A) → said ≡ Ok (x, names ++ labels) → length labels ≤ most_tokens → AddsFirst labels names new
     → RunsOut names said new
 Starves-labels {A} names labels new said x read few added =
     subst (λ s. RunsOut {A = A} names s new) (sym read) (inr (labels, (refl, few), added))
 
 -- what is made of a line that was read brings the same labels
-pub Starves-then : {A B : Type 0} (f : A → B) (names new : Names) (said : Result (A × Names) Refusal) → RunsOut names said new → RunsOut names (said >>= λ r. Ok (f r.0, r.1)) new
+pub Starves-then : {A B : Type 0} (f : A → B) (names new : Names) (said : Result (A × Names) ProgramKind) → RunsOut names said new → RunsOut names (said >>= λ r. Ok (f r.0, r.1)) new
 Starves-then f names new (Ok read) starves = starves
 Starves-then f names new (Err e) starves = starves
 
 -- there is room for what was read
-pub room-read : {A : Type 0} (names labels : Names) (said : Result (A × Names) Refusal) (x : A) → HasRoom names said → said ≡ Ok (x, names ++ labels) → length labels ≤ most_tokens
+pub room-read : {A : Type 0} (names labels : Names) (said : Result (A × Names) ProgramKind) (x : A) → HasRoom names said → said ≡ Ok (x, names ++ labels) → length labels ≤ most_tokens
     → length names + length labels ≤ most_names
 room-read names labels said x (inl few) read short = omega arith
 room-read {A} names labels said x (inr few) read short =
     let fits : FewNames {A = A} (Ok (x, names ++ labels)) = subst (FewNames {A = A}) read few in omega (arith, fits, length-append names labels)
 
-pub Answers-starves : {A : Type 0} (names new : Names) (said : Result (A × Names) Refusal) (r : Result A ReadError) → r ≡ Err error.NoMemory → RunsOut names said new → AnswersReading names said r new
+pub Answers-starves : {A : Type 0} (names new : Names) (said : Result (A × Names) ProgramKind) (r : Result A ReadError) → r ≡ Err error.NoMemory → RunsOut names said new → AnswersReading names said r new
 Answers-starves names new said r is starves = subst (λ r. AnswersReading names said r new) (sym is) starves
 
 module _ (m : Mode) (line : List ℕ) (names : Names) where

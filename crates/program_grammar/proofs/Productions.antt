@@ -10,21 +10,21 @@ use Rattle.conditions.specs.declared.condition.Op.{Op}
 use Rattle.conditions.specs.declared.condition.Term.{Term}
 use Rattle.conditions.specs.declared.condition.Term.TheVariants as term
 use Rattle.conditions.specs.meaning.Written.{most_tokens}
-use Rattle.program_grammar.specs.declared.fault.Refusal.{Refusal}
-use Rattle.program_grammar.specs.declared.fault.Refusal.TheVariants.{BadLine, TooLong}
+use Rattle.program_grammar.specs.declared.fault.ProgramKind.{ProgramKind}
+use Rattle.program_grammar.specs.declared.fault.ProgramKind.TheVariants.{BadLine, TooLong}
 use Rattle.program_grammar.specs.declared.term_name.TermName.{TermName}
 use Rattle.program_grammar.specs.declared.term_name.TermName.TheVariants as name
 use Rattle.program_grammar.specs.meaning.Token.{Token, bytes_in, word, opening, closing, comma, plus}
 use Rattle.program_grammar.specs.meaning.Lexing.{tokens_of}
 use Rattle.program_grammar.specs.meaning.Grammar.{Production, ReadResult, Nested, ◌>>=◌, tokens_after, if_present, or_bad_line, tokens_past, first_of, label, label_number, bound, operator, label_in_parentheses, optional_label, two_labels, term_after_name, term_of, factor, use_of, more_uses, sum_of, comparison, cond_in_parentheses, atom, neg, chain, nothing_after, condition, condition_of_tokens, condition_of}
 
-pub ok_same : {A : Type 0} {x y : A} → ◌≡◌ {A = Result A Refusal} (Ok x) (Ok y) → x ≡ y
+pub ok_same : {A : Type 0} {x y : A} → ◌≡◌ {A = Result A ProgramKind} (Ok x) (Ok y) → x ≡ y
 ok_same h = cc
 
 pub some_same : {A : Type 0} {x y : A} → Some x ≡ Some y → x ≡ y
 some_same h = cc
 
-pub bind_ok : {A B : Type 0} (r : Result A Refusal) (f : A → Result B Refusal) (y : B) → (r >>= f) ≡ Ok y → (x : A) × (r ≡ Ok x) × (f x ≡ Ok y)
+pub bind_ok : {A B : Type 0} (r : Result A ProgramKind) (f : A → Result B ProgramKind) (y : B) → (r >>= f) ≡ Ok y → (x : A) × (r ≡ Ok x) × (f x ≡ Ok y)
 bind_ok (Ok x) f y h = (x, refl, h)
 bind_ok {A} {B} (Err e) f y h = absurd (let no : Err e ≡ Ok y = h in cc)
 

@@ -15,8 +15,8 @@ use Rattle.conditions.specs.declared.condition.Term.{Term}
 use Rattle.conditions.specs.declared.condition.Term.TheVariants.{Vertices, Edges, Joins, Kinds, Degree, Missing, Least}
 use Rattle.conditions.specs.meaning.Written.{WrittenSize, written_size, written_size_by, tokens_at, depth_at, term_tokens, factor_tokens, sum_tokens, is_sum_within, are_numbers_within, IsWithinLimits, most_times, most_bound, most_factors, most_depth, most_tokens}
 use Rattle.conditions.proofs.Forms.{of_form, by_form, fold-form}
-use Rattle.program_grammar.specs.declared.fault.Refusal.{Refusal}
-use Rattle.program_grammar.specs.declared.fault.Refusal.TheVariants.{BadLine, TooLong}
+use Rattle.program_grammar.specs.declared.fault.ProgramKind.{ProgramKind}
+use Rattle.program_grammar.specs.declared.fault.ProgramKind.TheVariants.{BadLine, TooLong}
 use Rattle.program_grammar.specs.meaning.Token.{Token, digits_in, word, number, opening, closing, comma, plus, times, op}
 use Rattle.program_grammar.specs.meaning.Lexing.{tokens_of}
 use Rattle.program_grammar.specs.meaning.Grammar.{Nested, ◌>>=◌, tokens_after, if_present, tokens_past, first_of, label, label_number, label_number_by, bound, operator, named_term, label_in_parentheses, optional_label, two_labels, term_after_name, term_of, factor, factor_by, use_of, more_uses, sum_of, comparison, cond_in_parentheses, atom, neg, and_chain, conj, or_chain, cond_within, nested_within, nothing_after, condition, condition_of_tokens, condition_of}
@@ -25,7 +25,7 @@ use Rattle.program_grammar.proofs.Chaining.{negated, closed, chain-stop, chain-m
 use Rattle.program_grammar.proofs.Digits.{value_up_to-decimal}
 use Rattle.program_grammar.proofs.WrittenTokens.{Front, all_known, all_small, knows-form, numbers-form, front_term, front_times, front_factor, front_more, front_sum, front_round, front_at, front_by, front_cond, known_label, tokens_of-written}
 
-abbrev counted : List Token → ℕ → Result (ℕ × List Token) Refusal
+abbrev counted : List Token → ℕ → Result (ℕ × List Token) ProgramKind
 counted ts n = Ok (n, ts)
 
 -- ---- labels

@@ -11,8 +11,8 @@ use Rattle.line_fields.specs.meaning.Fields.{has_bytes, is_blank, trim_start, wo
 use Rattle.line_fields.proofs.WordsOf.{trim_start-first, words_of-first, words_of-trim_start}
 use Rattle.line_fields.specs.meaning.Names.{Names, AreNames, most_names}
 use Rattle.filter_polarity.specs.meaning.Program.{FallingValue, IsProgram, ProgramValue}
-use Rattle.program_grammar.specs.declared.fault.Refusal.{Refusal}
-use Rattle.program_grammar.specs.declared.fault.Refusal.TheVariants.{NotFalling}
+use Rattle.program_grammar.specs.declared.fault.ProgramKind.{ProgramKind}
+use Rattle.program_grammar.specs.declared.fault.ProgramKind.TheVariants.{NotFalling}
 use Rattle.program_grammar.specs.declared.header.HeaderReader.{HeaderReader}
 use Rattle.program_grammar.specs.declared.header.HeaderReader.TheVariants as header
 use Rattle.program_grammar.specs.declared.header.HeaderStep.{HeaderStep}
@@ -81,13 +81,13 @@ module _ (names : Names) where
   begin_line n p is = ap (λ n. Ok (Ready (record { mode = p.mode; size = n; filter = p.filter; matching = p.matching }), names)) is
 
   said-more : (h next : HeaderReader) (n : ℕ) (line : List ℕ) (lines : List (List ℕ)) → header_said h line names ≡ Ok (More next, names) → lines_said h n (line ∷ lines) names ≡ lines_said next (n + 1) lines names
-  said-more h next n line lines read = ap (outcome_after_line (λ next after. lines_said next (n + 1) lines after) n names) read
+  said-more h next n line lines read = ap (outcome_after_line (λ next after. lines_said next (n + 1) lines after) (n + 1) names) read
 
   -- there is room for the labels of a line that brings none, whatever it leads to
   fits-line : (h : HeaderReader) (step : HeaderStep) (line : List ℕ) (lines : List (List ℕ)) → length names ≤ most_names → header_said h line names ≡ Ok (step, names)
       → fits_next (λ next after. LinesFit next lines after) (Ok (step, names)) → LinesFit h (line ∷ lines) names
   fits-line h step line lines few read later =
-      subst (λ (said : Result (HeaderStep × Names) Refusal). HasRoom names said × fits_next (λ next after. LinesFit next lines after) said) (sym read) (inr few, later)
+      subst (λ (said : Result (HeaderStep × Names) ProgramKind). HasRoom names said × fits_next (λ next after. LinesFit next lines after) said) (sym read) (inr few, later)
 
   -- these premises are invariants of names and of programs, and what writing asks
   module _ (are : AreNames names) (p : ProgramValue) (program : IsProgram p) (filter_known : IsTrue (knows_labels names p.filter)) (matching_known : IsTrue (knows_labels names p.matching)) where
@@ -122,11 +122,11 @@ module _ (names : Names) where
     -- reading what is written gives the program, and no name is new
     pub program_said-written : program_said (program_text names p) names ≡ (Ok p, names)
     program_said-written =
-        said-more header.Mode (header.Size p.mode) 1 (codes "mode " ++ mode_text p.mode) lines_from_size (mode_line p.mode)
-        ∙ said-more (header.Size p.mode) (header.Filter p.mode p.size) 2 (codes "size " ++ decimal p.size) lines_from_filter (size_line p.mode p.size program.some_member program.few_members)
-        ∙ said-more (header.Filter p.mode p.size) (header.Match p.size of_filter) 3 (codes "filter " ++ cond_text names p.filter) lines_from_match filter_line
-        ∙ said-more (header.Match p.size of_filter) (header.Begin p.size of_filter p.matching) 4 (codes "match " ++ cond_text names p.matching) (codes "begin" ∷ []) match_line
-        ∙ ap (outcome_after_line (λ next after. lines_said next 6 [] after) 5 names) (begin_line p.size p refl)
+        said-more header.Mode (header.Size p.mode) 0 (codes "mode " ++ mode_text p.mode) lines_from_size (mode_line p.mode)
+        ∙ said-more (header.Size p.mode) (header.Filter p.mode p.size) 1 (codes "size " ++ decimal p.size) lines_from_filter (size_line p.mode p.size program.some_member program.few_members)
+        ∙ said-more (header.Filter p.mode p.size) (header.Match p.size of_filter) 2 (codes "filter " ++ cond_text names p.filter) lines_from_match filter_line
+        ∙ said-more (header.Match p.size of_filter) (header.Begin p.size of_filter p.matching) 3 (codes "match " ++ cond_text names p.matching) (codes "begin" ∷ []) match_line
+        ∙ ap (outcome_after_line (λ next after. lines_said next 5 [] after) 5 names) (begin_line p.size p refl)
 
     pub LinesFit-written : LinesFit header.Mode (program_text names p) names
     LinesFit-written =

@@ -6,8 +6,8 @@ use Rattle.conditions.specs.declared.condition.Cond.{Cond}
 use Rattle.conditions.specs.meaning.Written.{most_depth, most_tokens}
 use Rattle.program_grammar.specs.declared.fault.ReadError.{ReadError}
 use Rattle.program_grammar.specs.declared.fault.ReadError.TheVariants as error
-use Rattle.program_grammar.specs.declared.fault.Refusal.{Refusal}
-use Rattle.program_grammar.specs.declared.fault.Refusal.TheVariants.{BadLine, TooLong}
+use Rattle.program_grammar.specs.declared.fault.ProgramKind.{ProgramKind}
+use Rattle.program_grammar.specs.declared.fault.ProgramKind.TheVariants.{BadLine, TooLong}
 use Rattle.program_grammar.specs.meaning.Token.{Token}
 use Rattle.program_grammar.specs.meaning.Lexing.{tokens_of, tokens_in}
 use Rattle.program_grammar.specs.calls.Cursor.{has_no_token}
@@ -59,7 +59,7 @@ module _ (text : List ℕ) (names : Names) (count : ℕ) (counted : Some count �
   from_start : condition_of text names ≡ (cond_within (nested_within most_depth) start.tokens start.names >>= nothing_after)
   from_start = condition_of-tokens text names count counted few ∙ ap (λ (l : ReaderState). cond_within (nested_within most_depth) l.tokens l.names >>= nothing_after) (sym start_is)
 
-  pub read-refused : (f : Refusal) → cond_within (nested_within most_depth) start.tokens start.names ≡ Err f → condition_of text names ≡ Err f
+  pub read-refused : (f : ProgramKind) → cond_within (nested_within most_depth) start.tokens start.names ≡ Err f → condition_of text names ≡ Err f
   read-refused f read = from_start ∙ ap (λ r. r >>= nothing_after) read
 
   pub read-fails : (e : ReadError) (mid : ReaderState) → ReadsProduction {A = Cond} (Err e) mid (cond_within (nested_within most_depth) start.tokens start.names) → RefusesAs e (condition_of text names)

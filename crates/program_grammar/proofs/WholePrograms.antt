@@ -1,5 +1,5 @@
 -- The lines of a program, one by one.
-use Rattle.std.proofs.Common.{◌≡◌, ℕ, ◌+◌, ◌<◌, ◌≤◌, Bool, true, false, ◌⊎◌, inl, inr, List, ◌∷◌, length, drop, get_or, Result, Ok, Err, codes, refl, sym, ap, subst, ◌∙◌, arith, length-append, if◌then◌else◌}
+use Rattle.std.proofs.Common.{◌≡◌, ℕ, ◌+◌, ◌<◌, ◌≤◌, Bool, true, false, ◌⊎◌, inl, inr, List, ◌∷◌, length, drop, get_or, Result, Ok, Err, codes, sym, ap, subst, ◌∙◌, arith, length-append, if◌then◌else◌}
 use Rattle.std.proofs.lemmas.List.{drop_more}
 use Rattle.line_fields.specs.meaning.Fields.{is_nothing_line, words_of}
 use Rattle.line_fields.specs.meaning.Names.{Names, most_names}
@@ -7,15 +7,13 @@ use Rattle.filter_polarity.specs.meaning.Program.{ProgramValue}
 use Rattle.conditions.specs.meaning.Written.{most_tokens}
 use Rattle.program_grammar.specs.declared.fault.ProgramFault.{ProgramFault}
 use Rattle.program_grammar.specs.declared.fault.ProgramFault.TheVariants as fault
-use Rattle.program_grammar.specs.declared.fault.ReadError.TheVariants.{Refused}
-use Rattle.program_grammar.specs.declared.fault.Refusal.{Refusal}
-use Rattle.program_grammar.specs.declared.fault.Refusal.TheVariants as refusal
+use Rattle.program_grammar.specs.declared.fault.ProgramKind.{ProgramKind}
+use Rattle.program_grammar.specs.declared.fault.ProgramKind.TheVariants.{BadLine}
 use Rattle.program_grammar.specs.declared.header.HeaderReader.{HeaderReader}
 use Rattle.program_grammar.specs.declared.header.HeaderReader.TheVariants as header
 use Rattle.program_grammar.specs.declared.header.HeaderStep.{HeaderStep}
 use Rattle.program_grammar.specs.declared.header.HeaderStep.TheVariants.{More, Ready}
 use Rattle.program_grammar.specs.calls.Answers.{AnswersLine, FewNames, HasRoom, RunsOut}
-use Rattle.program_grammar.specs.calls.Faults.{fault_at}
 use Rattle.program_grammar.specs.meaning.Header.{mode_said, size_of, filter_of, condition_after_word, is_word, header_said, awaited_line_said}
 use Rattle.program_grammar.specs.meaning.Programs.{LinesFit, LinesRunOut, ReadsProgram, RoomFor, fits_next, outcome_after_line, lines_said, program_said, runs_out_next}
 use Rattle.program_grammar.specs.calls.Reading.{AddsNames}
@@ -27,7 +25,7 @@ at_line lines seen i line text seen_is at within text_is =
 
 -- room
 
-begin-few : (names : Names) (h : HeaderReader) (p : ProgramValue) (b d : Bool) → length names ≤ most_names → FewNames {A = HeaderStep} (if b then Ok (More h, names) else if d then Ok (Ready p, names) else Err refusal.BadLine)
+begin-few : (names : Names) (h : HeaderReader) (p : ProgramValue) (b d : Bool) → length names ≤ most_names → FewNames {A = HeaderStep} (if b then Ok (More h, names) else if d then Ok (Ready p, names) else Err BadLine)
 begin-few names h p true d few = few
 begin-few names h p false true few = few
 begin-few names h p false false few = tt
@@ -40,13 +38,13 @@ has-room (header.Filter m n) line names room = inl (omega (arith, room))
 has-room (header.Match n f) line names room = inl (omega (arith, room))
 has-room (header.Begin n f c) line names room = inr (begin-few names (header.Begin n f c) _ (is_nothing_line line) (is_word (codes "begin") (words_of line)) (omega (arith, room)))
 
-more_same : (x next : HeaderReader) (ns after : Names) → ◌≡◌ {A = Result (HeaderStep × Names) Refusal} (Ok (More x, ns)) (Ok (More next, after)) → (x ≡ next) × (ns ≡ after)
+more_same : (x next : HeaderReader) (ns after : Names) → ◌≡◌ {A = Result (HeaderStep × Names) ProgramKind} (Ok (More x, ns)) (Ok (More next, after)) → (x ≡ next) × (ns ≡ after)
 more_same x next ns after h =
     let e : ◌≡◌ {A = HeaderStep × Names} (More x, ns) (More next, after) = ok_same h in
     let k : More x ≡ More next = ap (λ (p : HeaderStep × Names). p.0) e in
     (cc, ap (λ (p : HeaderStep × Names). p.1) e)
 
-room-moved : (x next : HeaderReader) (ns after : Names) → RoomFor x ns → ◌≡◌ {A = Result (HeaderStep × Names) Refusal} (Ok (More x, ns)) (Ok (More next, after)) → RoomFor next after
+room-moved : (x next : HeaderReader) (ns after : Names) → RoomFor x ns → ◌≡◌ {A = Result (HeaderStep × Names) ProgramKind} (Ok (More x, ns)) (Ok (More next, after)) → RoomFor next after
 room-moved x next ns after room h = let e = more_same x next ns after h in subst (λ y. RoomFor y after) e.0 (subst (RoomFor x) e.1 room)
 
 next-room : (h next : HeaderReader) (line : List ℕ) (names after : Names) → RoomFor h names → length after ≤ length names + most_tokens → awaited_line_said h line names ≡ Ok (More next, after) → RoomFor next after
@@ -65,7 +63,7 @@ next-room (header.Match n f) next line names after room grown read =
     room-moved (header.Begin n f c.0) next c.1 after (omega (arith, room, grown, ap length e.1)) done
 next-room (header.Begin n f c) next line names after room grown read = absurd (never (is_word (codes "begin") (words_of line)) read)
   where
-    never : (b : Bool) → ◌≡◌ {A = Result (HeaderStep × Names) Refusal} (if b then Ok (Ready (record { mode = f.mode; size = n; filter = f.cond; matching = c }), names) else Err refusal.BadLine) (Ok (More next, after)) → ⊥
+    never : (b : Bool) → ◌≡◌ {A = Result (HeaderStep × Names) ProgramKind} (if b then Ok (Ready (record { mode = f.mode; size = n; filter = f.cond; matching = c }), names) else Err BadLine) (Ok (More next, after)) → ⊥
     never true h = let e : ◌≡◌ {A = HeaderStep × Names} (Ready (record { mode = f.mode; size = n; filter = f.cond; matching = c }), names) (More next, after) = ok_same h in let k : Ready (record { mode = f.mode; size = n; filter = f.cond; matching = c }) ≡ More next = ap (λ (p : HeaderStep × Names). p.0) e in cc
     never false h = cc
 
@@ -82,7 +80,7 @@ module _ (h : HeaderReader) (n : ℕ) (rest later : List (List ℕ)) (line : Lis
   room-here (inl room) = has-room h line names room
   room-here (inr fit) = (subst (λ r. LinesFit h r names) rest_is fit).0
 
-  said-here : lines_said h n rest names ≡ outcome_after_line (λ next after. lines_said next (n + 1) later after) n names (header_said h line names)
+  said-here : lines_said h n rest names ≡ outcome_after_line (λ next after. lines_said next (n + 1) later after) (n + 1) names (header_said h line names)
   said-here = ap (λ r. lines_said h n r names) rest_is
 
   pub starves-here : (new : Names) → RunsOut names (header_said h line names) new → LinesRunOut h rest names new
@@ -90,7 +88,7 @@ module _ (h : HeaderReader) (n : ℕ) (rest later : List (List ℕ)) (line : Lis
 
   module _ (next : HeaderReader) (after : Names) (read : header_said h line names ≡ Ok (More next, after)) where
     pub said-next : lines_said h n rest names ≡ lines_said next (n + 1) later after
-    said-next = said-here ∙ ap (outcome_after_line (λ next after. lines_said next (n + 1) later after) n names) read
+    said-next = said-here ∙ ap (outcome_after_line (λ next after. lines_said next (n + 1) later after) (n + 1) names) read
 
     pub starves-later : (new : Names) → LinesRunOut next later after new → LinesRunOut h rest names new
     starves-later new starves =
@@ -101,20 +99,15 @@ module _ (h : HeaderReader) (n : ℕ) (rest later : List (List ℕ)) (line : Lis
     room-next grows (inr fit) = inr (subst (fits_next (λ next after. LinesFit next later after)) read (subst (λ r. LinesFit h r names) rest_is fit).1)
 
   pub said-ready : (p : ProgramValue) (after : Names) → header_said h line names ≡ Ok (Ready p, after) → lines_said h n rest names ≡ (Ok p, after)
-  said-ready p after read = said-here ∙ ap (outcome_after_line (λ next after. lines_said next (n + 1) later after) n names) read
+  said-ready p after read = said-here ∙ ap (outcome_after_line (λ next after. lines_said next (n + 1) later after) (n + 1) names) read
 
-  said-refused : (f : Refusal) → header_said h line names ≡ Err f → lines_said h n rest names ≡ (Err (fault_at (Refused f) n), names)
-  said-refused f read = said-here ∙ ap (outcome_after_line (λ next after. lines_said next (n + 1) later after) n names) read
+  said-refused : (kind : ProgramKind) → header_said h line names ≡ Err kind → lines_said h n rest names ≡ (Err (fault.Refused (n + 1) kind), names)
+  said-refused kind read = said-here ∙ ap (outcome_after_line (λ next after. lines_said next (n + 1) later after) (n + 1) names) read
 
   module _ (all : List (List ℕ)) (old after : Names) (same : program_said all old ≡ lines_said h n rest names) (starved : (new : Names) → LinesRunOut h rest names new → LinesRunOut header.Mode all old new) where
-    refused : (r : Result ProgramValue ProgramFault) (e : ProgramFault) (f : Refusal) → r ≡ Err e → e ≡ fault_at (Refused f) n → header_said h line names ≡ Err f → after ≡ names → program_said all old ≡ (r, after)
-    refused r e f is told read unchanged = same ∙ said-refused f read ∙ ap (λ x. (Err x, names)) (sym told) ∙ ap (λ x. (x, names)) (sym is) ∙ ap (λ ns. (r, ns)) (sym unchanged)
+    refused : (number : ℕ) (kind : ProgramKind) → number ≡ n + 1 → header_said h line names ≡ Err kind → after ≡ names → program_said all old ≡ (Err (fault.Refused number kind), after)
+    refused number kind here read unchanged = same ∙ said-refused kind read ∙ ap (λ x. (Err (fault.Refused x kind), names)) (sym here) ∙ ap (λ ns. (Err (fault.Refused number kind), ns)) (sym unchanged)
 
-    pub said-fault : (r : Result ProgramValue ProgramFault) (e : ProgramFault) → r ≡ Err e → AnswersLine {A = HeaderStep} n names (header_said h line names) (Err e) after → ReadsProgram all old r after
+    pub said-fault : (r : Result ProgramValue ProgramFault) (e : ProgramFault) → r ≡ Err e → AnswersLine {A = HeaderStep} (n + 1) names (header_said h line names) (Err e) after → ReadsProgram all old r after
     said-fault r fault.NoMemory is answers = subst (λ x. ReadsProgram all old x after) (sym is) (starved after (starves-here after answers))
-    said-fault r (fault.BadLine line) is (number, read, unchanged) = subst (λ x. ReadsProgram all old x after) (sym is) (refused (Err (fault.BadLine line)) (fault.BadLine line) refusal.BadLine refl (ap fault.BadLine number) read unchanged)
-    said-fault r (fault.SizeRange line) is (number, read, unchanged) = subst (λ x. ReadsProgram all old x after) (sym is) (refused (Err (fault.SizeRange line)) (fault.SizeRange line) refusal.SizeRange refl (ap fault.SizeRange number) read unchanged)
-    said-fault r (fault.TooDeep line) is (number, read, unchanged) = subst (λ x. ReadsProgram all old x after) (sym is) (refused (Err (fault.TooDeep line)) (fault.TooDeep line) refusal.TooDeep refl (ap fault.TooDeep number) read unchanged)
-    said-fault r (fault.TooLong line) is (number, read, unchanged) = subst (λ x. ReadsProgram all old x after) (sym is) (refused (Err (fault.TooLong line)) (fault.TooLong line) refusal.TooLong refl (ap fault.TooLong number) read unchanged)
-    said-fault r (fault.NotFalling line) is (number, read, unchanged) = subst (λ x. ReadsProgram all old x after) (sym is) (refused (Err (fault.NotFalling line)) (fault.NotFalling line) refusal.NotFalling refl (ap fault.NotFalling number) read unchanged)
-    said-fault r (fault.Missing word) is never = absurd never
+    said-fault r (fault.Refused number kind) is (here, read, unchanged) = subst (λ x. ReadsProgram all old x after) (sym is) (refused number kind here read unchanged)

@@ -1,5 +1,4 @@
 -- What the calls do, by their results.
 pub mod Reading
 pub mod Answers
-pub mod Faults
 pub mod Cursor

@@ -5,7 +5,7 @@ ghost use Rattle.conditions.specs.meaning.Written.{IsWithinLimits};
 ghost use Rattle.program_grammar.specs.meaning.Grammar.{atom, bound, comparison, cond_within, condition_of, conj, nested_within, neg, operator};
 ghost use Rattle.program_grammar.specs.calls.Reading.{RefusesAs, TakesTokens, Parses, ReadsProduction, ReadsTokens};
 
-use crate::fault::{ReadError, Refusal};
+use crate::fault::{ProgramKind, ReadError};
 use crate::reader::ConditionReader;
 use crate::terms::value_up_to;
 use crate::token::Token;
@@ -36,34 +36,34 @@ pub(crate) fn parse<'t>(
     ensures within { IfOk result (λ p. IsWithinLimits p.0) }
 {
     let Some(count) = count_tokens(text) else {
-        return Err(ReadError::Refused(Refusal::BadLine));
+        return Err(ReadError::Refused(ProgramKind::BadLine));
     };
     if count > MOST_TOKENS {
-        return Err(ReadError::Refused(Refusal::TooLong));
+        return Err(ReadError::Refused(ProgramKind::TooLong));
     }
     let mut reader = ConditionReader::new(alloc, text, names);
     let cond = reader.cond(alloc, MOST_DEPTH)?;
     if !reader.is_done() {
-        return Err(ReadError::Refused(Refusal::BadLine));
+        return Err(ReadError::Refused(ProgramKind::BadLine));
     }
     Ok((cond, reader.into_labels()))
 }
 
 impl ConditionReader<'_, '_> {
     #[tactic(auto, unfolding(crate::specs::meaning::Grammar::operator))]
-    fn operator(&mut self) -> Result<Op, Refusal>
+    fn operator(&mut self) -> Result<Op, ProgramKind>
         ensures takes { ReadsTokens self.old result self.new (operator self.old.tokens) }
         ensures goes_on { TakesTokens self.old self.new }
     {
-        self.take_op().ok_or(Refusal::BadLine)
+        self.take_op().ok_or(ProgramKind::BadLine)
     }
 
     #[tactic(auto, unfolding(crate::specs::meaning::Grammar::bound))]
-    fn bound(&mut self) -> Result<u32, Refusal>
+    fn bound(&mut self) -> Result<u32, ProgramKind>
         ensures takes { ReadsTokens self.old result self.new (bound self.old.tokens) }
         ensures goes_on { TakesTokens self.old self.new }
     {
-        let digits = self.take_digits().ok_or(Refusal::BadLine)?;
+        let digits = self.take_digits().ok_or(ProgramKind::BadLine)?;
         value_up_to(digits, MOST_BOUND)
     }
 
@@ -147,10 +147,10 @@ impl ConditionReader<'_, '_> {
 }
 
 // How many more may be open after one more `not` or parenthesis.
-fn opened(room: u32) -> Result<u32, Refusal>
-    ensures { MatchResult result (λ left. room ≡ left + 1) (λ f. (room ≡ 0) × (f ≡ Refusal.TooDeep)) }
+fn opened(room: u32) -> Result<u32, ProgramKind>
+    ensures { MatchResult result (λ left. room ≡ left + 1) (λ f. (room ≡ 0) × (f ≡ ProgramKind.TooDeep)) }
 {
-    room.checked_sub(1).ok_or(Refusal::TooDeep)
+    room.checked_sub(1).ok_or(ProgramKind::TooDeep)
 }
 
 fn not(alloc: Global, operand: Cond) -> Result<Cond, AllocError>

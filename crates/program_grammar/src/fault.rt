@@ -1,75 +1,57 @@
-ghost use Rattle.std.specs.Prelude.{◌≡◌};
-ghost use Rattle.program_grammar.specs.calls.Faults.{fault_at};
-
 use crate::header::Word;
 use graph_types::NoMemory;
 use std::alloc::{AllocError, AllocFailed};
+use thiserror::Error;
 
-/// Why a program is refused, and in which line.
-#[derive(Clone, Copy, Debug, PartialEq, Eq)]
+/// Why a program was not read.
+#[derive(Clone, Copy, Debug, PartialEq, Eq, Error)]
 pub enum ProgramFault {
-    /// The line is not of the awaited form.
-    BadLine(u64),
-    /// The lines end before one that begins with this word.
-    Missing(Word),
-    /// The size is a number, and not 1 to 8.
-    SizeRange(u64),
-    /// More than 32 `not` and parentheses are open at once in the condition.
-    TooDeep(u64),
-    /// The condition has more than 512 tokens.
-    TooLong(u64),
-    /// The filter is not falling in the job's mode.
-    NotFalling(u64),
+    /// What is wrong, and the number of the line, or how many lines there were where one is missing.
+    #[error("line {line}: {kind}")]
+    Refused { line: u64, kind: ProgramKind },
     /// An allocation was refused.
+    #[error("out of memory")]
     NoMemory,
 }
 
-impl ProgramFault {
-    /// The fault of line `number`.
-    pub(crate) fn at(error: ReadError, number: u64) -> ProgramFault
-        ensures { result ≡ fault_at error number }
-    {
-        match error {
-            ReadError::NoMemory => ProgramFault::NoMemory,
-            ReadError::Refused(Refusal::BadLine) => ProgramFault::BadLine(number),
-            ReadError::Refused(Refusal::SizeRange) => ProgramFault::SizeRange(number),
-            ReadError::Refused(Refusal::TooDeep) => ProgramFault::TooDeep(number),
-            ReadError::Refused(Refusal::TooLong) => ProgramFault::TooLong(number),
-            ReadError::Refused(Refusal::NotFalling) => ProgramFault::NotFalling(number),
-        }
-    }
-}
-
-/// Why a line is refused, without its number.
-#[derive(Clone, Copy, Debug, PartialEq, Eq)]
-pub enum Refusal {
+/// What is wrong with a program.
+#[derive(Clone, Copy, Debug, PartialEq, Eq, Error)]
+pub enum ProgramKind {
     /// The line is not of the awaited form.
+    #[error("the line is not of the awaited form")]
     BadLine,
+    /// The lines end before one that begins with this word. It is said of no line.
+    #[error("no line begins with {0}")]
+    Missing(Word),
     /// The size is a number, and not 1 to 8.
+    #[error("the size is not 1 to 8")]
     SizeRange,
-    /// The condition has more than 512 tokens.
-    TooLong,
     /// More than 32 `not` and parentheses are open at once in the condition.
+    #[error("more than 32 `not` and parentheses are open at once")]
     TooDeep,
+    /// The condition has more than 512 tokens.
+    #[error("the condition has more than 512 tokens")]
+    TooLong,
     /// The filter is not falling in the job's mode.
+    #[error("the filter is not falling in this mode")]
     NotFalling,
 }
 
 /// Why a line was not read.
 #[derive(Clone, Copy, Debug, PartialEq, Eq)]
 pub(crate) enum ReadError {
+    Refused(ProgramKind),
     NoMemory,
-    Refused(Refusal),
 }
 
-impl From<Refusal> for ReadError {
+impl From<ProgramKind> for ReadError {
     ghost use Rattle.std.specs.Prelude.{◌≡◌};
     ghost use Rattle.program_grammar.specs.declared.fault.ReadError.TheVariants.{Refused};
 
-    ghost from_gives = { λ f e. e ≡ Refused f };
+    ghost from_gives = { λ kind e. e ≡ Refused kind };
 
-    fn from(refusal: Refusal) -> ReadError {
-        ReadError::Refused(refusal)
+    fn from(kind: ProgramKind) -> ReadError {
+        ReadError::Refused(kind)
     }
 }
 

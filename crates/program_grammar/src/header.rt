@@ -7,7 +7,7 @@ ghost use Rattle.program_grammar.specs.calls.Reading.{RefusesAs, Parses};
 ghost use Rattle.program_grammar.specs.calls.Answers.{AnswersReading, AnswersLine, HasRoom};
 
 use crate::condition::parse;
-use crate::fault::{ProgramFault, ReadError, Refusal};
+use crate::fault::{ProgramFault, ProgramKind, ReadError};
 use crate::labels::intern_all;
 use crate::limited::{Filter, Matching, Size};
 use conditions::Cond;
@@ -15,6 +15,7 @@ use filter_polarity::{Program, falling};
 use graph_types::Mode;
 use line_fields::{Names, is_nothing, read_number, rest, word, words};
 use std::alloc::Global;
+use std::fmt;
 
 /// The word with which a line of the header begins.
 #[derive(Clone, Copy, Debug, PartialEq, Eq)]
@@ -29,6 +30,18 @@ pub enum Word {
     Match,
     /// `begin`
     Begin,
+}
+
+impl fmt::Display for Word {
+    fn fmt<W: fmt::Write>(&self, f: &mut fmt::Formatter<W>) -> fmt::Result {
+        f.write_str(match self {
+            Word::Mode => "mode",
+            Word::Size => "size",
+            Word::Filter => "filter",
+            Word::Match => "match",
+            Word::Begin => "begin",
+        })
+    }
 }
 
 /// A header that is being read: which line comes next, and what the lines before it said.
@@ -109,7 +122,8 @@ impl HeaderReader {
     {
         match self.step(alloc, line, names) {
             Ok(step) => Ok(step),
-            Err(error) => Err(ProgramFault::at(error, number)),
+            Err(ReadError::Refused(kind)) => Err(ProgramFault::Refused { line: number, kind }),
+            Err(ReadError::NoMemory) => Err(ProgramFault::NoMemory),
         }
     }
 
@@ -148,7 +162,7 @@ impl HeaderReader {
                 matching,
             } => {
                 if !is_word(line, b"begin") {
-                    return Err(ReadError::Refused(Refusal::BadLine));
+                    return Err(ReadError::Refused(ProgramKind::BadLine));
                 }
                 Ok(HeaderStep::Ready(program(size, filter, matching)))
             }
@@ -169,7 +183,7 @@ fn program(size: Size, filter: Filter, matching: Matching) -> Program
 
 /// `mode vertex` or `mode edge`.
 #[tactic(auto, unfolding(crate::specs::meaning::Header::mode_said))]
-fn read_mode(line: &[u8]) -> Result<Mode, Refusal>
+fn read_mode(line: &[u8]) -> Result<Mode, ProgramKind>
     ensures { result ≡ mode_said (words_of line.now) }
 {
     if is_pair(line, b"mode", b"vertex") {
@@ -177,24 +191,24 @@ fn read_mode(line: &[u8]) -> Result<Mode, Refusal>
     } else if is_pair(line, b"mode", b"edge") {
         Ok(Mode::Edge)
     } else {
-        Err(Refusal::BadLine)
+        Err(ProgramKind::BadLine)
     }
 }
 
 /// `size` and a number.
 #[tactic(auto, unfolding(crate::specs::meaning::Header::size_of))]
-fn read_size(line: &[u8]) -> Result<Size, Refusal>
+fn read_size(line: &[u8]) -> Result<Size, ProgramKind>
     ensures { result ≡ size_of (words_of line.now) }
 {
     let Some(digits) = value(line, b"size") else {
-        return Err(Refusal::BadLine);
+        return Err(ProgramKind::BadLine);
     };
     let Some(number) = read_number(digits, 10) else {
-        return Err(Refusal::BadLine);
+        return Err(ProgramKind::BadLine);
     };
     match Size::of_number(number) {
         Some(size) => Ok(size),
-        None => Err(Refusal::SizeRange),
+        None => Err(ProgramKind::SizeRange),
     }
 }
 
@@ -220,7 +234,7 @@ fn read_filter(
     let (cond, labels) = parse_behind(alloc, b"filter", line, names)?;
     let filter = match falling(cond, mode) {
         Ok(filter) => filter,
-        Err(_) => return Err(ReadError::Refused(Refusal::NotFalling)),
+        Err(_) => return Err(ReadError::Refused(ProgramKind::NotFalling)),
     };
     intern_all(alloc, names, labels.as_slice())?;
     Ok(Filter::new(filter))
@@ -249,7 +263,7 @@ fn parse_behind<'t>(
     ensures within { IfOk result (λ p. IsWithinLimits p.0) }
 {
     if !is_first(line, first) {
-        return Err(ReadError::Refused(Refusal::BadLine));
+        return Err(ReadError::Refused(ProgramKind::BadLine));
     }
     parse(alloc, rest(line, 1), names)
 }

@@ -14,7 +14,7 @@ mod token;
 mod tokens;
 mod writing;
 
-pub use fault::{ProgramFault, Refusal};
+pub use fault::{ProgramFault, ProgramKind};
 pub use header::{HeaderReader, HeaderStep, Word};
 pub use limited::{Filter, Matching, Size};
 pub use program::read_program;

@@ -2,7 +2,7 @@ ghost use Rattle.std.specs.Prelude.{◌⊎◌, map, IfOk, IsTrue};
 ghost use Rattle.program_grammar.specs.meaning.Programs.{LinesFit, ReadsProgram, RoomFor};
 ghost use Rattle.program_grammar.specs.meaning.Text.{knows_labels};
 
-use crate::fault::ProgramFault;
+use crate::fault::{ProgramFault, ProgramKind};
 use crate::header::{HeaderReader, HeaderStep};
 use filter_polarity::Program;
 use job_io::LineList;
@@ -11,8 +11,8 @@ use std::alloc::Global;
 
 /// Reads the program that lines say, up to its `begin`. Labels that the names lack are put after them in the
 /// order in which they stand, at most 1,024. A refusal leaves there those of the lines before. The first line
-/// that [`HeaderReader::take`] refuses is told, by its number from 1; `Missing` tells that the lines end before
-/// `begin`. Takes the time and the memory of those calls.
+/// that [`HeaderReader::take`] refuses is told, by its number from 1; where the lines end before `begin`, it is
+/// told how many there were, and the word that is `Missing`. Takes the time and the memory of those calls.
 pub fn read_program(
     alloc: Global,
     lines: &LineList,
@@ -29,5 +29,8 @@ pub fn read_program(
             HeaderStep::Ready(program) => return Ok(program),
         }
     }
-    Err(ProgramFault::Missing(header.missing()))
+    Err(ProgramFault::Refused {
+        line: lines.len() as u64,
+        kind: ProgramKind::Missing(header.missing()),
+    })
 }

@@ -8,7 +8,7 @@ ghost use Rattle.program_grammar.specs.meaning.Grammar.{label};
 ghost use Rattle.program_grammar.specs.calls.Reading.{TakesTokens, KeepsNames, MissesToken, NewLabels, PassesToken, ReadsProduction};
 ghost use Rattle.program_grammar.specs.meaning.Token.{bytes_in, digits_in, op_in};
 
-use crate::fault::{ReadError, Refusal};
+use crate::fault::{ProgramKind, ReadError};
 use crate::labels::number_of;
 use crate::token::Token;
 use crate::tokens::Tokens;
@@ -70,24 +70,24 @@ impl<'t, 'n> ConditionReader<'t, 'n> {
         ensures reads { ReadsProduction result self.new (label self.old.tokens self.old.names) }
         ensures goes_on { TakesTokens self.old self.new }
     {
-        let word = self.tokens.take_word().ok_or(Refusal::BadLine)?;
+        let word = self.tokens.take_word().ok_or(ProgramKind::BadLine)?;
         if !is_label(word) {
-            return Err(ReadError::Refused(Refusal::BadLine));
+            return Err(ReadError::Refused(ProgramKind::BadLine));
         }
         let label = number_of(self.names, &mut self.labels, word)?;
         Ok(label)
     }
 
     // Takes a token that has to be next.
-    pub(crate) fn expect(&mut self, wanted: &Token<'_>) -> Result<(), Refusal>
+    pub(crate) fn expect(&mut self, wanted: &Token<'_>) -> Result<(), ProgramKind>
         ensures passed { IfOk result (λ _. PassesToken (token_of wanted.now) self.old self.new) }
-        ensures missed { IfErr result (λ f. (f ≡ Refusal.BadLine) × MissesToken (token_of wanted.now) self.old self.new) }
+        ensures missed { IfErr result (λ f. (f ≡ ProgramKind.BadLine) × MissesToken (token_of wanted.now) self.old self.new) }
         ensures goes_on { TakesTokens self.old self.new }
     {
         if self.takes(wanted) {
             Ok(())
         } else {
-            Err(Refusal::BadLine)
+            Err(ProgramKind::BadLine)
         }
     }
 

@@ -2,7 +2,7 @@ ghost use Rattle.std.specs.Prelude.{◌≡◌, ◌++◌, ◌∷◌, [], IfOk};
 ghost use Rattle.program_grammar.specs.meaning.Grammar.{factor, named_term, optional_label, sum_of, term_after_name, term_of, two_labels, use_of, value_up_to};
 ghost use Rattle.program_grammar.specs.calls.Reading.{TakesTokens, ReadsProduction, ReadsUse, ReadsTokens};
 
-use crate::fault::{ReadError, Refusal};
+use crate::fault::{ProgramKind, ReadError};
 use crate::reader::ConditionReader;
 use crate::term_name::{TermName, read_term_name};
 use crate::token::Token;
@@ -19,12 +19,12 @@ const MOST_TIMES: u32 = 100;
 impl ConditionReader<'_, '_> {
     // Takes the word with which a term begins.
     #[tactic(auto, unfolding(crate::specs::meaning::Grammar::named_term))]
-    fn term_name(&mut self) -> Result<TermName, Refusal>
+    fn term_name(&mut self) -> Result<TermName, ProgramKind>
         ensures takes { ReadsTokens self.old result self.new (named_term self.old.tokens) }
         ensures goes_on { TakesTokens self.old self.new }
     {
-        let word = self.take_word().ok_or(Refusal::BadLine)?;
-        read_term_name(word).ok_or(Refusal::BadLine)
+        let word = self.take_word().ok_or(ProgramKind::BadLine)?;
+        read_term_name(word).ok_or(ProgramKind::BadLine)
     }
 
     // Takes a label in parentheses, if there is one.
@@ -86,7 +86,7 @@ impl ConditionReader<'_, '_> {
 
     // Takes a factor with its `*`, if there is one.
     #[tactic(auto, unfolding(crate::specs::meaning::Grammar::factor))]
-    fn factor(&mut self) -> Result<u32, Refusal>
+    fn factor(&mut self) -> Result<u32, ProgramKind>
         ensures takes { ReadsTokens self.old result self.new (factor self.old.tokens) }
         ensures goes_on { TakesTokens self.old self.new }
     {
@@ -117,7 +117,7 @@ impl ConditionReader<'_, '_> {
             return Ok(None);
         }
         if room == 0 {
-            return Err(ReadError::Refused(Refusal::BadLine));
+            return Err(ReadError::Refused(ProgramKind::BadLine));
         }
         Ok(Some(self.use_of()?))
     }
@@ -157,11 +157,11 @@ fn with_use(mut sum: FactorList, factor: Factor) -> Result<FactorList, NoMemory>
 }
 
 /// The number that 1 to 10 digits say, if it is no larger than the most.
-pub(crate) fn value_up_to(digits: &[u8], most: u32) -> Result<u32, Refusal>
+pub(crate) fn value_up_to(digits: &[u8], most: u32) -> Result<u32, ProgramKind>
     ensures { result ≡ value_up_to most digits.now }
 {
     match read_number(digits, 10) {
         Some(number) if number <= u64::from(most) => Ok(number as u32),
-        _ => Err(Refusal::BadLine),
+        _ => Err(ProgramKind::BadLine),
     }
 }

@@ -6,7 +6,7 @@ use crate::text::bytes;
 use graph_types::{NoMemory, PieceList, Stamp};
 use job_io::{ByteList, CallList, MemorySource};
 use record_text::read_record;
-use snapshot_fold::{Fold, FoldFault, FoldStop, fold_records};
+use snapshot_fold::{Fold, FoldFault, FoldRefusal, FoldStop, fold_records};
 use std::alloc::Global;
 
 /// Folds a text, and so many `#` after it (`filled`), of at most `most` lines, up to timestamp `at` or to
@@ -81,11 +81,20 @@ fn folded(alloc: Global, case: &Case, bytes: ByteList) -> Result<String, NoMemor
 
 fn fault_text(fault: FoldFault) -> &'static str {
     match fault {
-        FoldFault::MixedModes => "mixed modes, ",
-        FoldFault::OutOfOrder => "out of order, ",
-        FoldFault::AddsPresent => "adds present, ",
-        FoldFault::RemovesAbsent => "removes absent, ",
+        FoldFault::Refused(FoldRefusal::MixedModes) => "mixed modes, ",
+        FoldFault::Refused(FoldRefusal::OutOfOrder) => "out of order, ",
+        FoldFault::Refused(FoldRefusal::AddsPresent) => "adds present, ",
+        FoldFault::Refused(FoldRefusal::RemovesAbsent) => "removes absent, ",
         FoldFault::NoMemory => "out of memory, ",
+    }
+}
+
+fn refusal_text(why: FoldRefusal) -> &'static str {
+    match why {
+        FoldRefusal::MixedModes => "mixes modes",
+        FoldRefusal::OutOfOrder => "out of order",
+        FoldRefusal::AddsPresent => "adds present",
+        FoldRefusal::RemovesAbsent => "removes absent",
     }
 }
 
@@ -94,10 +103,9 @@ fn stop_text(alloc: Global, stop: FoldStop) -> Result<String, NoMemory> {
         FoldStop::NoMemory => return Err(NoMemory),
         FoldStop::ReadFault => String::from_str(alloc, "read fault")?,
         FoldStop::BadLine(line) => format!(in alloc; "line {line} in no form")?,
-        FoldStop::MixedModes(line) => format!(in alloc; "line {line} mixes modes")?,
-        FoldStop::OutOfOrder(line) => format!(in alloc; "line {line} out of order")?,
-        FoldStop::AddsPresent(line) => format!(in alloc; "line {line} adds present")?,
-        FoldStop::RemovesAbsent(line) => format!(in alloc; "line {line} removes absent")?,
+        FoldStop::Refused { line, why } => {
+            format!(in alloc; "line {line} {}", refusal_text(why))?
+        }
         FoldStop::NotDone(lines) => format!(in alloc; "not done after {lines} lines")?,
         FoldStop::TooLong(line) => format!(in alloc; "line {line} too long")?,
         FoldStop::TooMany(line) => format!(in alloc; "line {line} too many")?,

@@ -22,7 +22,7 @@ use Rattle.record_text.specs.declared.read.RecordLine.TheVariants.{Rem, Add, Don
 use Rattle.record_text.specs.meaning.Grammar.{record_of}
 use Rattle.record_text.proofs.Pieces.{mode_itself}
 use Rattle.shared_lemmas.proofs.Claims.{all-both, all-weaker}
-use Rattle.snapshot_fold.specs.declared.fault.FoldFault.TheVariants.{MixedModes, OutOfOrder, AddsPresent, RemovesAbsent}
+use Rattle.snapshot_fold.specs.declared.fault.FoldRefusal.TheVariants.{MixedModes, OutOfOrder, AddsPresent, RemovesAbsent}
 use Rattle.snapshot_fold.specs.meaning.Accepted.{state_after_lines}
 use Rattle.snapshot_fold.specs.meaning.FoldState.{FoldState}
 use Rattle.snapshot_fold.specs.meaning.FoldText.{accepted_state, state_after_line}
@@ -97,7 +97,7 @@ new_taken s kind t held rem new members is above absent =
 
 -- ---- the records of a timestamp
 
--- the fold after lines that say this, where each is a record or nothing, and has no fault
+-- the fold after lines that say this, where each is nothing, or a record that is not refused
 abbrev pub state_after_said : FoldState → List (Option RecordLine) → Option FoldState
 state_after_said s [] = Some s
 state_after_said s (said ∷ more) =

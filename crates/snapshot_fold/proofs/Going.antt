@@ -235,10 +235,7 @@ module _ (most : ℕ) (at : Option ℕ) (left0 left left' : Option (List ℕ)) (
   stops_by stop.ReadFault takes =
       BothKnown-then _ _ _ left0 left left' stands.known takes unended
   stops_by (stop.BadLine n) takes = stopped (stop.BadLine n) takes
-  stops_by (stop.MixedModes n) takes = stopped (stop.MixedModes n) takes
-  stops_by (stop.OutOfOrder n) takes = stopped (stop.OutOfOrder n) takes
-  stops_by (stop.AddsPresent n) takes = stopped (stop.AddsPresent n) takes
-  stops_by (stop.RemovesAbsent n) takes = stopped (stop.RemovesAbsent n) takes
+  stops_by (stop.Refused n refusal) takes = stopped (stop.Refused n refusal) takes
   stops_by (stop.NotDone n) takes = stopped (stop.NotDone n) takes
   stops_by (stop.TooLong n) takes = stopped (stop.TooLong n) takes
   stops_by (stop.TooMany n) takes = stopped (stop.TooMany n) takes

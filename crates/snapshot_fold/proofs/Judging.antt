@@ -10,8 +10,8 @@ use Rattle.job_io.specs.meaning.Lines.{Line, without_cr, most_line_bytes}
 use Rattle.record_text.specs.meaning.Grammar.{record_of}
 use Rattle.record_text.specs.declared.read.RecordLine.{RecordLine}
 use Rattle.record_text.specs.declared.read.RecordLine.TheVariants.{Nothing, Rem, Add, Done}
-use Rattle.snapshot_fold.specs.declared.fault.FoldFault.{FoldFault}
-use Rattle.snapshot_fold.specs.declared.fault.FoldFault.TheVariants.{MixedModes, OutOfOrder, AddsPresent, RemovesAbsent}
+use Rattle.snapshot_fold.specs.declared.fault.FoldRefusal.{FoldRefusal}
+use Rattle.snapshot_fold.specs.declared.fault.FoldRefusal.TheVariants.{MixedModes, OutOfOrder, AddsPresent, RemovesAbsent}
 use Rattle.snapshot_fold.specs.declared.folding.FoldStop.{FoldStop}
 use Rattle.snapshot_fold.specs.declared.folding.FoldStop.TheVariants as stop
 use Rattle.snapshot_fold.specs.meaning.FoldState.{FoldState}
@@ -22,7 +22,7 @@ use Rattle.snapshot_fold.specs.meaning.Taking.{state_after_record, is_of_other_m
 use Rattle.snapshot_fold.specs.meaning.Taking.{after_rem, after_new, after_done}
 
 module _ {E : Type 0} (e : E) (behind : FoldState) (r : Result FoldState E) where
-  -- what is accepted passed the test for a fault
+  -- what is accepted passed the test for a refusal
   pub passes : (b : Bool) → cond b (Err e) r ≡ Ok behind → r ≡ Ok behind
   passes true so = cc
   passes false so = so
@@ -81,9 +81,9 @@ pub record SaysRecord (s behind : FoldState) (line : Line) : Type 0 where
   pub said_is : record_of (without_cr line.bytes) ≡ Some said
   pub taken_is : state_after_record s said ≡ Ok behind
 
-taken_at-ok : (n : ℕ) (behind : FoldState) (r : Result FoldState FoldFault) → state_or_stop n r ≡ Ok behind → r ≡ Ok behind
+taken_at-ok : (n : ℕ) (behind : FoldState) (r : Result FoldState FoldRefusal) → state_or_stop n r ≡ Ok behind → r ≡ Ok behind
 taken_at-ok n behind (Ok other) so = let e : other ≡ behind = cc in ap Ok e
-taken_at-ok n behind (Err fault) so = cc
+taken_at-ok n behind (Err why) so = cc
 
 said_at-ok : (n : ℕ) (s behind : FoldState) (o : Option RecordLine) → state_after_content n s o ≡ Ok behind →
     (said : RecordLine) × (o ≡ Some said) × (state_after_record s said ≡ Ok behind)

@@ -1,4 +1,4 @@
--- Lines that a fold takes without a fault, what they tell, and what each part of them tells.
+-- Lines that a fold takes, what they tell, and what each part of them tells.
 use Rattle.std.proofs.Common.{◌≡◌, ◌≢◌, ℕ, zero, suc, ◌<◌, ◌≤◌, ◌⊎◌, inl, inr, Bool, true, false, cond, eqb, IsTrue, List, [], ◌∷◌, ◌++◌, length, Option, None, Some, refl, sym, ap, ◌∙◌, append_assoc, arith, length-append}
 use Rattle.std.specs.Prelude.{Result, Ok, Err}
 use Rattle.std.specs.Option.{option_and_then, is_some}
@@ -10,7 +10,7 @@ use Rattle.job_io.proofs.LinesOf.{lf_or_none, whole_lines_of-none, whole_lines_o
 use Rattle.record_text.specs.declared.read.RecordLine.{RecordLine}
 use Rattle.record_text.specs.declared.read.RecordLine.TheVariants.{Nothing, Rem, Add, Done}
 use Rattle.record_text.specs.meaning.Grammar.{record_of}
-use Rattle.snapshot_fold.specs.declared.fault.FoldFault.{FoldFault}
+use Rattle.snapshot_fold.specs.declared.fault.FoldRefusal.{FoldRefusal}
 use Rattle.snapshot_fold.specs.meaning.Accepted.{SayDone, state_after_lines}
 use Rattle.snapshot_fold.specs.meaning.FoldState.{FoldState, empty_fold}
 use Rattle.snapshot_fold.specs.meaning.FoldText.{accepted_state, fold_text, pieces_where_done, state_after_line}
@@ -44,9 +44,9 @@ whole_lines_of-more text more = whole_lines-within (length text) text more (omeg
 
 -- ---- one line
 
-accepted-ok : (r : Result FoldState FoldFault) (next : FoldState) → accepted_state r ≡ Some next → r ≡ Ok next
+accepted-ok : (r : Result FoldState FoldRefusal) (next : FoldState) → accepted_state r ≡ Some next → r ≡ Ok next
 accepted-ok (Ok other) next is = let same : other ≡ next = cc in ap Ok same
-accepted-ok (Err fault) next is = cc
+accepted-ok (Err why) next is = cc
 
 line-says : (s next : FoldState) (line : Line) → state_after_line s line ≡ Some next → SaysRecord s next line
 line-says s next line is =

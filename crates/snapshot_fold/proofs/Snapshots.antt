@@ -13,16 +13,13 @@ use Rattle.graph_types.specs.meaning.Orders.{pair_cmp_total}
 use Rattle.graph_types.specs.declared.update.Update.{Update}
 use Rattle.graph_types.specs.declared.update.Update.TheVariants.{AddVertex, RemoveVertex, LabelVertex, AddEdge, RemoveEdge, LabelEdge}
 use Rattle.graph_types.proofs.Graph.{pair_cmp-IsAntisymmetric, EdgesHaveEnds-empty_graph, EdgesHaveEnds-with_vertex, EdgesHaveEnds-with_edge, EdgesHaveEnds-without_edge, EdgesHaveEnds-without_vertex, HasEnds-between}
-use Rattle.mining_model.specs.meaning.Step.{Refusal, add_edge, graph_after, graph_after_all, at_edge, edge_exists, is_loop, label_edge, graph_left_by, no_edge, no_vertex, remove_edge, vertex_exists}
-use Rattle.mining_model.specs.meaning.History.{Group, history}
+use Rattle.graph_types.specs.declared.refusal.Refusal.{Refusal}
+use Rattle.graph_types.specs.declared.refusal.Refusal.TheVariants as refusal
+use Rattle.mining_model.specs.meaning.Step.{add_edge, graph_after, graph_after_all, at_edge, label_edge, graph_left_by, remove_edge}
+use Rattle.mining_model.specs.meaning.History.{AddsShortId, Group, history}
 use Rattle.snapshot_fold.specs.meaning.Records.{IsRecordable}
 use Rattle.shared_lemmas.proofs.FiniteMaps.{contains_key-kept}
 use Rattle.shared_lemmas.proofs.Orderings.{same_item}
-
--- the id of a vertex that the update adds fits 32 bits; other updates add none
-abbrev pub AddsShortId : Update → Type 0
-AddsShortId (AddVertex id label) = id < 2 ^ 32
-AddsShortId u = Unit {0}
 
 pub IsRecordable-empty_graph : IsRecordable empty_graph
 IsRecordable-empty_graph = record {
@@ -88,13 +85,13 @@ module _ (g : Graph) (can : IsRecordable g) where
   at_ends : (from to : ℕ) (update : ℕ × ℕ → Result Graph Refusal) → ((from ≢ to) → IsTrue (has_vertex g from) → IsTrue (has_vertex g to) → IsRecordable (graph_left_by g (update (edge_between from to))))
       → IsRecordable (graph_left_by g (at_edge g from to update))
   at_ends from to update gives =
-      elim (eqb from to) as (λ b. eqb from to ≡ b → IsRecordable (graph_left_by g (if b then Err is_loop else if not (has_vertex g from) then Err (no_vertex from) else if not (has_vertex g to) then Err (no_vertex to) else update (edge_between from to)))) [
+      elim (eqb from to) as (λ b. eqb from to ≡ b → IsRecordable (graph_left_by g (if b then Err refusal.Loop else if not (has_vertex g from) then Err (refusal.NoVertex from) else if not (has_vertex g to) then Err (refusal.NoVertex to) else update (edge_between from to)))) [
         | true ↦ λ _. can
         | false ↦ λ apart.
-            elim (has_vertex g from) as (λ b. has_vertex g from ≡ b → IsRecordable (graph_left_by g (if not b then Err (no_vertex from) else if not (has_vertex g to) then Err (no_vertex to) else update (edge_between from to)))) [
+            elim (has_vertex g from) as (λ b. has_vertex g from ≡ b → IsRecordable (graph_left_by g (if not b then Err (refusal.NoVertex from) else if not (has_vertex g to) then Err (refusal.NoVertex to) else update (edge_between from to)))) [
               | false ↦ λ _. can
               | true ↦ λ has_from.
-                  elim (has_vertex g to) as (λ b. has_vertex g to ≡ b → IsRecordable (graph_left_by g (if not b then Err (no_vertex to) else update (edge_between from to)))) [
+                  elim (has_vertex g to) as (λ b. has_vertex g to ≡ b → IsRecordable (graph_left_by g (if not b then Err (refusal.NoVertex to) else update (edge_between from to)))) [
                     | false ↦ λ _. can
                     | true ↦ λ has_to. gives (eqb-false from to apart) has_from has_to
                   ] refl
@@ -103,11 +100,11 @@ module _ (g : Graph) (can : IsRecordable g) where
 
   IsRecordable-after : (u : Update) → AddsShortId u → IsRecordable (graph_after g u)
   IsRecordable-after (AddVertex id label) fits =
-      elim (has_vertex g id) as (λ b. IsRecordable (graph_left_by g (if b then Err vertex_exists else Ok (with_vertex g id label)))) [ true ↦ can | false ↦ IsRecordable-with_vertex id label fits ]
+      elim (has_vertex g id) as (λ b. IsRecordable (graph_left_by g (if b then Err refusal.VertexExists else Ok (with_vertex g id label)))) [ true ↦ can | false ↦ IsRecordable-with_vertex id label fits ]
   IsRecordable-after (RemoveVertex id) _ =
-      elim (has_vertex g id) as (λ b. IsRecordable (graph_left_by g (if b then Ok (without_vertex g id) else Err (no_vertex id)))) [ true ↦ IsRecordable-without_vertex id | false ↦ can ]
+      elim (has_vertex g id) as (λ b. IsRecordable (graph_left_by g (if b then Ok (without_vertex g id) else Err (refusal.NoVertex id)))) [ true ↦ IsRecordable-without_vertex id | false ↦ can ]
   IsRecordable-after (LabelVertex id label) _ =
-      elim (has_vertex g id) as (λ b. has_vertex g id ≡ b → IsRecordable (graph_left_by g (if b then Ok (with_vertex g id label) else Err (no_vertex id)))) [
+      elim (has_vertex g id) as (λ b. has_vertex g id ≡ b → IsRecordable (graph_left_by g (if b then Ok (with_vertex g id label) else Err (refusal.NoVertex id)))) [
         | true ↦ λ has. IsRecordable-with_vertex id label (can.short_ids id has)
         | false ↦ λ _. can
       ] refl
@@ -115,15 +112,15 @@ module _ (g : Graph) (can : IsRecordable g) where
       at_ends from to (add_edge g label) (λ apart has_from has_to.
       let e = edge_between from to in
       let lower : e.0 < e.1 = grind arith in
-      elim (has_edge g e) as (λ b. IsRecordable (graph_left_by g (if b then Err edge_exists else Ok (with_edge g e label)))) [ true ↦ can | false ↦ IsRecordable-with_edge e label (HasEnds-between g from to has_from has_to) lower ])
+      elim (has_edge g e) as (λ b. IsRecordable (graph_left_by g (if b then Err refusal.EdgeExists else Ok (with_edge g e label)))) [ true ↦ can | false ↦ IsRecordable-with_edge e label (HasEnds-between g from to has_from has_to) lower ])
   IsRecordable-after (RemoveEdge from to) _ =
       at_ends from to (remove_edge g) (λ _ _ _.
       let e = edge_between from to in
-      elim (has_edge g e) as (λ b. IsRecordable (graph_left_by g (if b then Ok (without_edge g e) else Err no_edge))) [ true ↦ IsRecordable-without_edge e | false ↦ can ])
+      elim (has_edge g e) as (λ b. IsRecordable (graph_left_by g (if b then Ok (without_edge g e) else Err refusal.NoEdge))) [ true ↦ IsRecordable-without_edge e | false ↦ can ])
   IsRecordable-after (LabelEdge from to label) _ =
       at_ends from to (label_edge g label) (λ _ _ _.
       let e = edge_between from to in
-      elim (has_edge g e) as (λ b. has_edge g e ≡ b → IsRecordable (graph_left_by g (if b then Ok (with_edge g e label) else Err no_edge))) [
+      elim (has_edge g e) as (λ b. has_edge g e ≡ b → IsRecordable (graph_left_by g (if b then Ok (with_edge g e label) else Err refusal.NoEdge))) [
         | true ↦ λ has. IsRecordable-with_edge e label (can.simple.ends e has) (can.simple.lower_first e has)
         | false ↦ λ _. can
       ] refl)

@@ -133,10 +133,7 @@ module _ (old new : Reading) (s behind : FoldState) (was is : Option (List ℕ))
       takes_stop stop.NoMemory judged is_why = tt
       takes_stop stop.ReadFault judged is_why = absurd (judged refl)
       takes_stop (stop.BadLine n) judged is_why = stopped (stop.BadLine n) is_why
-      takes_stop (stop.MixedModes n) judged is_why = stopped (stop.MixedModes n) is_why
-      takes_stop (stop.OutOfOrder n) judged is_why = stopped (stop.OutOfOrder n) is_why
-      takes_stop (stop.AddsPresent n) judged is_why = stopped (stop.AddsPresent n) is_why
-      takes_stop (stop.RemovesAbsent n) judged is_why = stopped (stop.RemovesAbsent n) is_why
+      takes_stop (stop.Refused n refusal) judged is_why = stopped (stop.Refused n refusal) is_why
       takes_stop (stop.NotDone n) judged is_why = stopped (stop.NotDone n) is_why
       takes_stop (stop.TooLong n) judged is_why = stopped (stop.TooLong n) is_why
       takes_stop (stop.TooMany n) judged is_why = stopped (stop.TooMany n) is_why

@@ -4,11 +4,11 @@ ghost use Rattle.std.specs.Option.{is_none};
 ghost use Rattle.graph_types.specs.meaning.Piece.{piece_cmp};
 ghost use Rattle.snapshot_fold.specs.meaning.FoldState.{empty_fold};
 ghost use Rattle.snapshot_fold.specs.meaning.Pieces.{is_above, has_piece, last_of};
-ghost use Rattle.snapshot_fold.specs.meaning.Taking.{IsRecordRefusal, after_new, comes_in_order, goes_in_order, after_rem, is_of_other_mode, is_open, state_after_record};
-ghost use Rattle.snapshot_fold.specs.declared.fault.FoldFault.TheVariants.{AddsPresent, RemovesAbsent};
+ghost use Rattle.snapshot_fold.specs.meaning.Taking.{IsRecordFault, after_new, comes_in_order, goes_in_order, after_rem, is_of_other_mode, is_open, state_after_record};
+ghost use Rattle.snapshot_fold.specs.declared.fault.FoldRefusal.TheVariants.{AddsPresent, RemovesAbsent};
 ghost use Rattle.record_text.specs.declared.read.RecordLine.TheVariants.{Rem, Add, Done};
 
-use crate::FoldFault;
+use crate::fault::{FoldFault, FoldRefusal};
 use crate::listing::{is_above, put_back};
 use graph_types::{Mode, NoMemory, Piece, PieceList, Stamp};
 use record_text::RecordLine;
@@ -66,7 +66,7 @@ impl Fold {
     /// says nothing changes nothing.
     pub fn take(&mut self, line: &RecordLine) -> Result<(), FoldFault>
         ensures ok { OnOk result (state_after_record self.old line.now ≡ Ok self.new) }
-        ensures refused { IfErr result (IsRecordRefusal (state_after_record self.old line.now)) }
+        ensures refused { IfErr result (IsRecordFault (state_after_record self.old line.now)) }
         ensures unchanged { OnErr result (self.new ≡ self.old) }
     {
         match line {
@@ -95,39 +95,39 @@ impl Fold {
 
     fn take_rem(&mut self, stamp: Stamp, piece: &Piece) -> Result<(), FoldFault>
         ensures ok { OnOk result (state_after_record self.old (Rem stamp piece.now) ≡ Ok self.new) }
-        ensures refused { IfErr result (IsRecordRefusal (state_after_record self.old (Rem stamp piece.now))) }
+        ensures refused { IfErr result (IsRecordFault (state_after_record self.old (Rem stamp piece.now))) }
         ensures unchanged { OnErr result (self.new ≡ self.old) }
     {
         if self.is_of_other_mode(piece) {
-            return Err(FoldFault::MixedModes);
+            return Err(FoldFault::Refused(FoldRefusal::MixedModes));
         }
         if !self.goes_in_order(stamp, piece) {
-            return Err(FoldFault::OutOfOrder);
+            return Err(FoldFault::Refused(FoldRefusal::OutOfOrder));
         }
         self.take_out(piece)
     }
 
     fn take_add(&mut self, stamp: Stamp, piece: &Piece) -> Result<(), FoldFault>
         ensures ok { OnOk result (state_after_record self.old (Add stamp piece.now) ≡ Ok self.new) }
-        ensures refused { IfErr result (IsRecordRefusal (state_after_record self.old (Add stamp piece.now))) }
+        ensures refused { IfErr result (IsRecordFault (state_after_record self.old (Add stamp piece.now))) }
         ensures unchanged { OnErr result (self.new ≡ self.old) }
     {
         if self.is_of_other_mode(piece) {
-            return Err(FoldFault::MixedModes);
+            return Err(FoldFault::Refused(FoldRefusal::MixedModes));
         }
         if !self.comes_in_order(stamp, piece) {
-            return Err(FoldFault::OutOfOrder);
+            return Err(FoldFault::Refused(FoldRefusal::OutOfOrder));
         }
         self.put_in(piece)
     }
 
     fn take_done(&mut self, stamp: Stamp) -> Result<(), FoldFault>
         ensures ok { OnOk result (state_after_record self.old (Done stamp) ≡ Ok self.new) }
-        ensures refused { IfErr result (IsRecordRefusal (state_after_record self.old (Done stamp))) }
+        ensures refused { IfErr result (IsRecordFault (state_after_record self.old (Done stamp))) }
         ensures unchanged { OnErr result (self.new ≡ self.old) }
     {
         if !self.is_open(stamp) {
-            return Err(FoldFault::OutOfOrder);
+            return Err(FoldFault::Refused(FoldRefusal::OutOfOrder));
         }
         self.done = stamp;
         self.went = PieceList::new(self.alloc);
@@ -175,7 +175,7 @@ impl Fold {
         requires above { IsTrue (is_above self.old.last_rem piece.now) }
         ensures ok { OnOk result (IsTrue (has_piece self.old.held piece.now)
             × (self.new ≡ after_rem self.old piece.now)) }
-        ensures refused { IfErr result (IsRecordRefusal (if has_piece self.old.held piece.now
+        ensures refused { IfErr result (IsRecordFault (if has_piece self.old.held piece.now
             then Ok (after_rem self.old piece.now) else Err RemovesAbsent)) }
         ensures unchanged { OnErr result (self.new ≡ self.old) }
     {
@@ -183,12 +183,12 @@ impl Fold {
             return Err(if self.pieces.contains(piece) {
                 FoldFault::NoMemory
             } else {
-                FoldFault::RemovesAbsent
+                FoldFault::Refused(FoldRefusal::RemovesAbsent)
             });
         }
         if !self.pieces.remove(piece) {
             self.went.pop();
-            return Err(FoldFault::RemovesAbsent);
+            return Err(FoldFault::Refused(FoldRefusal::RemovesAbsent));
         }
         self.mode = Some(piece.mode());
         Ok(())
@@ -199,13 +199,13 @@ impl Fold {
         requires above { IsTrue (is_above self.old.last_new piece.now) }
         ensures ok { OnOk result ((has_piece self.old.held piece.now ≡ false)
             × (self.new ≡ after_new self.old piece.now)) }
-        ensures refused { IfErr result (IsRecordRefusal (if has_piece self.old.held piece.now
+        ensures refused { IfErr result (IsRecordFault (if has_piece self.old.held piece.now
             then Err AddsPresent else Ok (after_new self.old piece.now))) }
         ensures unchanged { OnErr result (self.new ≡ self.old) }
     {
         if self.came.push(*piece).is_err() {
             return Err(if self.pieces.contains(piece) {
-                FoldFault::AddsPresent
+                FoldFault::Refused(FoldRefusal::AddsPresent)
             } else {
                 FoldFault::NoMemory
             });
@@ -217,7 +217,7 @@ impl Fold {
             }
             Ok(false) => {
                 self.came.pop();
-                Err(FoldFault::AddsPresent)
+                Err(FoldFault::Refused(FoldRefusal::AddsPresent))
             }
             Err(_) => {
                 self.came.pop();

@@ -3,38 +3,41 @@ ghost use Rattle.std.specs.List.Sorted.{IsStrictlySortedBy};
 ghost use Rattle.graph_types.specs.meaning.Piece.{piece_cmp};
 ghost use Rattle.job_io.specs.calls.Ends.{HasRisen};
 ghost use Rattle.record_text.specs.meaning.Grammar.{record_of};
-ghost use Rattle.snapshot_fold.specs.meaning.Folding.{outcome_at_end, is_reached as is_reached_at, state_after_content, stop_at};
+ghost use Rattle.snapshot_fold.specs.meaning.Folding.{outcome_at_end, is_reached as is_reached_at, state_after_content};
 ghost use Rattle.snapshot_fold.specs.calls.Folds.{AreTold, FoldsRecords};
 ghost use Rattle.snapshot_fold.specs.calls.Reading.{IsOutcome, IsStopOf, TakesLine};
 
-use crate::{Fold, FoldFault};
+use crate::fault::{FoldFault, FoldRefusal};
+use crate::fold::Fold;
 use graph_types::{NoMemory, PieceList, Stamp};
 use job_io::{LineFault, LineReader, Source};
 use record_text::read_record;
 use std::alloc::Global;
+use thiserror::Error;
 
 /// Why a source of records gives no pieces. Lines are counted from 1.
-#[derive(Clone, Copy, Debug, PartialEq, Eq)]
+#[derive(Clone, Copy, Debug, PartialEq, Eq, Error)]
 pub enum FoldStop {
     /// Memory ran out.
+    #[error("out of memory")]
     NoMemory,
     /// The source failed.
+    #[error("the records could not be read")]
     ReadFault,
     /// The line of this number is in none of the forms of a record.
+    #[error("line {0}: it is no record")]
     BadLine(u64),
-    /// The piece of this line is of another mode than the first one.
-    MixedModes(u64),
-    /// The record of this line isn't in its place among the others.
-    OutOfOrder(u64),
-    /// The piece that is to come at this line is there.
-    AddsPresent(u64),
-    /// The piece that is to go at this line isn't there.
-    RemovesAbsent(u64),
+    /// The record of this line is refused.
+    #[error("line {line}: {why}")]
+    Refused { line: u64, why: FoldRefusal },
     /// The text ended after so many whole lines, and the timestamp wasn't done.
+    #[error("after {0} lines the timestamp isn't done")]
     NotDone(u64),
     /// This line has more than 4,096 bytes.
+    #[error("line {0}: it has more than 4,096 bytes")]
     TooLong(u64),
     /// This line is one more than are allowed.
+    #[error("line {0}: it is one more than are allowed")]
     TooMany(u64),
 }
 
@@ -46,21 +49,6 @@ impl From<NoMemory> for FoldStop {
 
     fn from(_: NoMemory) -> FoldStop {
         FoldStop::NoMemory
-    }
-}
-
-impl FoldStop {
-    /// The stop that a record's fault makes at a line.
-    fn at(line: u64, fault: FoldFault) -> FoldStop
-        ensures { result ≡ stop_at line fault }
-    {
-        match fault {
-            FoldFault::MixedModes => FoldStop::MixedModes(line),
-            FoldFault::OutOfOrder => FoldStop::OutOfOrder(line),
-            FoldFault::AddsPresent => FoldStop::AddsPresent(line),
-            FoldFault::RemovesAbsent => FoldStop::RemovesAbsent(line),
-            FoldFault::NoMemory => FoldStop::NoMemory,
-        }
     }
 }
 
@@ -174,7 +162,8 @@ fn fold_line(fold: &mut Fold, number: u64, line: &[u8]) -> Result<(), FoldStop>
     };
     match fold.take(&said) {
         Ok(()) => Ok(()),
-        Err(fault) => Err(FoldStop::at(number, fault)),
+        Err(FoldFault::Refused(why)) => Err(FoldStop::Refused { line: number, why }),
+        Err(FoldFault::NoMemory) => Err(FoldStop::NoMemory),
     }
 }
 

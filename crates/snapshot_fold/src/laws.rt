@@ -33,7 +33,7 @@ pub fn a_timestamp_says_its_records()
         said_by (step_text pattern before now t) ≡ map Some (step_records pattern before now t) }
 {}
 
-/// What is written for a history says its records, and is taken without a fault, line by line up to its last
+/// What is written for a history says its records, and is taken without a refusal, line by line up to its last
 /// timestamp; and cut off anywhere it tells nothing but the embeddings, at the timestamps whose line stands
 /// before the cut.
 pub fn a_history_is_accepted()

@@ -7,6 +7,6 @@ mod folding;
 pub mod laws;
 mod listing;
 
-pub use fault::FoldFault;
+pub use fault::{FoldFault, FoldRefusal};
 pub use fold::Fold;
 pub use folding::{FoldStop, fold_records};

@@ -1,14 +1,13 @@
 -- Which command the first word names.
-use Rattle.std.proofs.Common.{◌≡◌, Bool, true, false, ℕ, List, [], ◌∷◌, codes, Option, None, Some, if◌then◌else◌, refl, ap}
+use Rattle.std.proofs.Common.{◌≡◌, Bool, true, false, ℕ, List, [], ◌∷◌, codes, Option, None, Some, if◌then◌else◌, refl, sym, ap, ◌∙◌}
 use Rattle.std.specs.Option.{option_and_then, option_map}
 use Rattle.std.specs.Str.{bytes_eq}
-use Rattle.std.proofs.lemmas.Slice.Eq.{bytes_eq-Decides}
 use Rattle.command_words.specs.declared.command.Verb.{Verb}
 use Rattle.command_words.specs.declared.command.Verb.TheVariants.{Mine, Fold}
 use Rattle.command_words.specs.declared.command.Options.{Options}
 use Rattle.command_words.specs.declared.command.Command.{Command}
 use Rattle.command_words.specs.meaning.Words.{command_of, options_of_words, verb_of}
-use Rattle.tesseract.specs.meaning.Commands.{fold_command, is_still, mine_command}
+use Rattle.tesseract.specs.meaning.Commands.{is_still, mine_command}
 
 -- a command with options that were given
 of_verb : (verb : Verb) (options : Option Options) (c : Command) →
@@ -35,21 +34,17 @@ is_fold true f named = absurd (let e : Some Mine ≡ Some Fold = named in cc)
 is_fold false true named = refl
 is_fold false false named = absurd (let e : None ≡ Some Fold = named in cc)
 
-is_mine : (m f : Bool) → (if m then Some Mine else if f then Some Fold else None) ≡ Some Mine → m ≡ true
-is_mine true f named = refl
-is_mine false true named = absurd (let e : Some Fold ≡ Some Mine = named in cc)
-is_mine false false named = absurd (let e : None ≡ Some Mine = named in cc)
-
 -- to fold takes one thread alone
-pub fold_is_still : (words : List (List ℕ)) (at : Option ℕ) → command_of words ≡ Some (fold_command at) →
+pub fold-is_still : (words : List (List ℕ)) (c : Command) → command_of words ≡ Some c → c.verb ≡ Fold →
     is_still words ≡ true
-fold_is_still [] at given = absurd (let e : None ≡ Some (fold_command at) = given in cc)
-fold_is_still (word ∷ words) at given =
-    is_fold (bytes_eq word (codes "mine")) (bytes_eq word (codes "fold")) (first_word word words (fold_command at) given)
+fold-is_still [] c given fold = absurd (let e : None ≡ Some c = given in cc)
+fold-is_still (word ∷ words) c given fold =
+    is_fold (bytes_eq word (codes "mine")) (bytes_eq word (codes "fold")) (first_word word words c given ∙ ap Some fold)
 
--- to mine does not
-pub mine_is_not_still : (words : List (List ℕ)) → command_of words ≡ Some mine_command → is_still words ≡ false
-mine_is_not_still [] given = refl
-mine_is_not_still (word ∷ words) given =
-    let m = is_mine (bytes_eq word (codes "mine")) (bytes_eq word (codes "fold")) (first_word word words mine_command given) in
-    ap (λ word. bytes_eq word (codes "fold")) ((bytes_eq-Decides word (codes "mine")).0 m)
+-- to fold is not to mine
+pub fold-is_not_mine : (words : List (List ℕ)) (c : Command) → command_of words ≡ Some c → c.verb ≡ Fold →
+    command_of words ≡ Some mine_command → ⊥
+fold-is_not_mine words c given fold mine =
+    let e : Some c ≡ Some mine_command = sym given ∙ mine in
+    let same : ◌≡◌ {A = Command} c mine_command = cc in
+    let verbs : Fold ≡ Mine = sym fold ∙ ap (λ (c : Command). c.verb) same in cc

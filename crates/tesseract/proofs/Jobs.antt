@@ -1,311 +1,43 @@
--- What the program and the updates of a job are like, and so what its records tell.
-use Rattle.std.proofs.Common.{◌≡◌, ℕ, zero, suc, ◌-◌, ◌^◌, ◌<◌, ◌≤◌, ◌&&◌, codes, List, [], ◌∷◌, length}
-use Rattle.std.proofs.Common.{nat_le, nat_lt, Option, None, Some, Result, Ok, Err, All, sym, ap, subst, ◌∙◌, arith}
-use Rattle.std.specs.Option.{IfSome, option_map}
-use Rattle.std.specs.Result.{IfOk}
-use Rattle.std.proofs.lemmas.Bool.{and_parts, cond_both, leb-true, ltb-true, ltb-false}
-use Rattle.std.proofs.lemmas.List.Elements.{All-cons, All-nil}
-use Rattle.graph_types.specs.meaning.Graph.{Graph, empty_graph}
+-- What the records of a job tell.
+use Rattle.std.proofs.Common.{◌≡◌, ℕ, ◌^◌, ◌≤◌, List, length, Some, ap, subst, ◌∙◌, arith}
+use Rattle.std.specs.Option.{IfSome}
+use Rattle.graph_types.specs.meaning.Graph.{empty_graph}
 use Rattle.graph_types.specs.meaning.Piece.{most_members}
-use Rattle.graph_types.specs.declared.update.Update.{Update}
-use Rattle.graph_types.specs.declared.update.Update.TheVariants.{AddVertex, RemoveVertex, LabelVertex, AddEdge, RemoveEdge, LabelEdge}
-use Rattle.line_fields.specs.meaning.Fields.{words_of, id_of, is_number, value_after, is_label_word, is_nothing_line, number_of}
-use Rattle.job_io.specs.meaning.Lines.{Line, without_cr, most_line_bytes}
+use Rattle.job_io.specs.meaning.Lines.{Line}
 use Rattle.mining_model.specs.meaning.Embeddings.{Pattern, embeddings}
-use Rattle.mining_model.specs.meaning.History.{Group, history, snapshot}
-use Rattle.mining_model.specs.meaning.Step.{Refusal, step}
-use Rattle.line_fields.specs.meaning.Names.{Names, interning, no_name}
-use Rattle.update_reader.specs.meaning.Grammar.{LineContent, nothing, commit, update, too_many_labels, bad_line, content_of_line, content_of_form, content_of_labelled}
-use Rattle.update_reader.specs.meaning.Grammar.{Form, commit_form, unlabelled, labelled, no_form, form_with, form_after_keyword, form_of}
-use Rattle.update_reader.specs.meaning.Grammar.{ids_of, keyword_of, unlabelled_form, labelled_form, vertex_form, edge_form}
-use Rattle.update_reader.specs.declared.keyword.Keyword.{Keyword}
-use Rattle.update_reader.specs.declared.keyword.Keyword.TheVariants as keyword
+use Rattle.mining_model.specs.meaning.History.{history, snapshot}
 use Rattle.snapshot_fold.specs.meaning.FoldText.{fold_text}
 use Rattle.snapshot_fold.specs.meaning.Records.{IsTellable, pieces_of}
-use Rattle.snapshot_fold.proofs.Snapshots.{AddsShortId, IsRecordable-empty_graph, IsRecordable-history}
+use Rattle.snapshot_fold.proofs.Snapshots.{IsRecordable-empty_graph, IsRecordable-history}
 use Rattle.snapshot_fold.proofs.Telling.{fold_text-upto}
-use Rattle.program_grammar.specs.meaning.Grammar.{◌>>=◌}
-use Rattle.program_grammar.specs.meaning.Header.{header_said, mode_said, size_of, size_said, size_in_range, in_range, value_of, filter_of}
-use Rattle.program_grammar.specs.meaning.Header.{condition_after_word, is_word}
-use Rattle.program_grammar.specs.meaning.Header.{awaited_line_said as header_said_by}
-use Rattle.program_grammar.specs.meaning.Sizes.{size_in}
-use Rattle.program_grammar.specs.declared.fault.Refusal.{Refusal as HeaderRefusal}
-use Rattle.program_grammar.specs.declared.header.HeaderReader.{HeaderReader}
-use Rattle.program_grammar.specs.declared.header.HeaderReader.TheVariants as header
-use Rattle.program_grammar.specs.declared.header.HeaderStep.{HeaderStep}
-use Rattle.program_grammar.specs.declared.header.HeaderStep.TheVariants.{More, Ready}
-use Rattle.tesseract.specs.declared.status.Status.{Status}
-use Rattle.tesseract.specs.meaning.Job.{Stage, heading, streaming, first_stage, Judgement, refused, moved, accepted}
-use Rattle.tesseract.specs.meaning.Job.{header_judgement, step_judgement, content_judgement, line_judgement, judgement}
-use Rattle.tesseract.specs.meaning.Job.{Verdict, verdict_at_end, verdict_after, verdict_from, verdict, job_text, text_under}
-use Rattle.tesseract.proofs.Making.{embeddings-empty}
+use Rattle.job.specs.meaning.Judging.{Verdict, verdict}
+use Rattle.job.proofs.Bounds.{verdict-bounded}
+use Rattle.tesseract.specs.declared.limits.Limits.{Limits}
+use Rattle.tesseract.specs.meaning.Output.{IsWrittenUpto, output}
+use Rattle.tesseract.proofs.Outputs.{written-within}
+use Rattle.tesseract.proofs.Standing.{embeddings-empty}
 
--- ---- the ids of vertices that are added
+module _ (limits : Limits) (lines : List Line) (limit : limits.lines ≤ 10 ^ 19) (pattern : Pattern)
+    (is : (verdict limits.lines lines).pattern ≡ Some pattern) where
+  abbrev v : Verdict
+  v = verdict limits.lines lines
 
-id_short : (word : List ℕ) → IfSome (id_of word) (λ v. v < 2 ^ 32)
-id_short word =
-    cond_both (is_number 10 word && nat_lt (value_after 0 word) (2 ^ 32)) (Some (value_after 0 word)) None
-    (λ id. IfSome id (λ v. v < 2 ^ 32))
-    (λ is. ltb-true (value_after 0 word) (2 ^ 32) (and_parts _ _ is).1) (λ _. tt)
-
--- the update of a line's form
-abbrev FormIsShort : Form → Type 0
-FormIsShort (unlabelled u) = AddsShortId u
-FormIsShort (labelled make label) = (l : ℕ) → AddsShortId (make l)
-FormIsShort form = Unit {0}
-
--- the update that a line says
-abbrev SaidIsShort : LineContent → Type 0
-SaidIsShort (update u later) = AddsShortId u
-SaidIsShort what = Unit {0}
-
-module _ {A B : Type 0} (make : A → B) (Q : B → Type 0) where
-  made : (P : A → Type 0) (o : Option A) → IfSome o P → ((a : A) → P a → Q (make a)) → IfSome (option_map make o) Q
-  made P None holds so = tt
-  made P (Some a) holds so = so a holds
-
-  made_any : (o : Option A) → ((a : A) → Q (make a)) → IfSome (option_map make o) Q
-  made_any None so = tt
-  made_any (Some a) so = so a
-
-unlabelled_short : (u : Option Update) → IfSome u AddsShortId → FormIsShort (unlabelled_form u)
-unlabelled_short None short = tt
-unlabelled_short (Some u) short = short
-
-labelled_short : (make : Option (ℕ → Update)) (label : List ℕ) →
-    IfSome make (λ make. (l : ℕ) → AddsShortId (make l)) → FormIsShort (labelled_form make label)
-labelled_short None label short = tt
-labelled_short (Some make) label short =
-    cond_both (is_label_word label) (labelled make label) no_form FormIsShort (λ _. short) (λ _. tt)
-
-vertex_short : (make : ℕ → ℕ → Update) (id label : List ℕ) →
-    ((v l : ℕ) → v < 2 ^ 32 → AddsShortId (make v l)) → FormIsShort (vertex_form make id label)
-vertex_short make id label short =
-    labelled_short (option_map make (id_of id)) label
-    (made make (λ make. (l : ℕ) → AddsShortId (make l)) (λ v. v < 2 ^ 32) (id_of id) (id_short id)
-    (λ v fits l. short v l fits))
-
-edge_short : (make : ℕ → ℕ → ℕ → Update) (from to label : List ℕ) →
-    ((x y l : ℕ) → AddsShortId (make x y l)) → FormIsShort (edge_form make from to label)
-edge_short make from to label short =
-    labelled_short (option_map (λ ends. make ends.0 ends.1) (ids_of from to)) label
-    (made_any (λ (ends : ℕ × ℕ). make ends.0 ends.1) (λ make. (l : ℕ) → AddsShortId (make l)) (ids_of from to)
-    (λ ends. short ends.0 ends.1))
-
-form_short : (word : Keyword) (fields : List (List ℕ)) → FormIsShort (form_with word fields)
-form_short keyword.AddVertex (id ∷ []) = vertex_short (λ v l. AddVertex v l) id no_name (λ v l fits. fits)
-form_short keyword.AddVertex (id ∷ label ∷ []) = vertex_short (λ v l. AddVertex v l) id label (λ v l fits. fits)
-form_short keyword.RemoveVertex (id ∷ []) =
-    unlabelled_short (option_map (λ v. RemoveVertex v) (id_of id))
-    (made_any (λ v. RemoveVertex v) AddsShortId (id_of id) (λ _. tt))
-form_short keyword.LabelVertex (id ∷ label ∷ []) = vertex_short (λ v l. LabelVertex v l) id label (λ v l fits. tt)
-form_short keyword.AddEdge (from ∷ to ∷ []) = edge_short (λ x y l. AddEdge x y l) from to no_name (λ x y l. tt)
-form_short keyword.AddEdge (from ∷ to ∷ label ∷ []) = edge_short (λ x y l. AddEdge x y l) from to label (λ x y l. tt)
-form_short keyword.RemoveEdge (from ∷ to ∷ []) =
-    unlabelled_short (option_map (λ ends. RemoveEdge ends.0 ends.1) (ids_of from to))
-    (made_any (λ (ends : ℕ × ℕ). RemoveEdge ends.0 ends.1) AddsShortId (ids_of from to) (λ _. tt))
-form_short keyword.LabelEdge (from ∷ to ∷ label ∷ []) = edge_short (λ x y l. LabelEdge x y l) from to label (λ x y l. tt)
-form_short keyword.Commit [] = tt
-form_short word fields = tt
-
-behind_short : (word : Option Keyword) (fields : List (List ℕ)) → FormIsShort (form_after_keyword word fields)
-behind_short None fields = tt
-behind_short (Some word) fields = form_short word fields
-
-words_short : (words : List (List ℕ)) → FormIsShort (form_of words)
-words_short [] = tt
-words_short (word ∷ fields) = behind_short (keyword_of word) fields
-
-numbered_short : (make : ℕ → Update) (number : Option (ℕ × Names)) → ((l : ℕ) → AddsShortId (make l)) →
-    SaidIsShort (content_of_labelled make number)
-numbered_short make None short = tt
-numbered_short make (Some with_number) short = short with_number.0
-
-by_short : (names : Names) (form : Form) → FormIsShort form → SaidIsShort (content_of_form names form)
-by_short names commit_form short = tt
-by_short names (unlabelled u) short = short
-by_short names (labelled make label) short = numbered_short make (interning names label) short
-by_short names no_form short = tt
-
-said_short : (names : Names) (line : List ℕ) → SaidIsShort (content_of_line names line)
-said_short names line =
-    cond_both (is_nothing_line line) nothing (content_of_form names (form_of (words_of line))) SaidIsShort (λ _. tt)
-    (λ _. by_short names (form_of (words_of line)) (words_short (words_of line)))
-
--- ---- the size of the program
-
-in_size : (n : ℕ) → IfSome (size_in n) (λ n. n ≤ most_members)
-in_size n =
-    cond_both (nat_le 1 n && nat_le n most_members) (Some n) None (λ n. IfSome n (λ n. n ≤ most_members))
-    (λ is. leb-true n most_members (and_parts _ _ is).1) (λ _. tt)
-
-range_small : (n : Option ℕ) → IfSome n (λ n. n ≤ most_members) → IfOk (in_range n) (λ n. n ≤ most_members)
-range_small None small = tt
-range_small (Some n) small = small
-
-number_small : (n : Option ℕ) → IfOk (size_in_range n) (λ n. n ≤ most_members)
-number_small None = tt
-number_small (Some n) = range_small (size_in n) (in_size n)
-
-digits_small : (digits : Option (List ℕ)) → IfOk (size_said digits) (λ n. n ≤ most_members)
-digits_small None = tt
-digits_small (Some digits) = number_small (number_of 10 digits)
-
-size_small : (words : List (List ℕ)) → IfOk (size_of words) (λ n. n ≤ most_members)
-unfolding size_of
-size_small words = digits_small (value_of (codes "size") words)
-
--- the size that a header has, once it has one
-abbrev HeaderIsSmall : HeaderReader → Type 0
-HeaderIsSmall header.Mode = Unit {0}
-HeaderIsSmall (header.Size m) = Unit {0}
-HeaderIsSmall (header.Filter m n) = n ≤ most_members
-HeaderIsSmall (header.Match n f) = n ≤ most_members
-HeaderIsSmall (header.Begin n f c) = n ≤ most_members
-
-abbrev StepIsSmall : Result (HeaderStep × Names) HeaderRefusal → Type 0
-StepIsSmall (Ok (More next, names)) = HeaderIsSmall next
-StepIsSmall (Ok (Ready program, names)) = program.size ≤ most_members
-StepIsSmall (Err refusal) = Unit {0}
-
-abbrev StageIsSmall : Stage → Type 0
-StageIsSmall (heading next names) = HeaderIsSmall next
-StageIsSmall (streaming pattern names g) = pattern.size ≤ most_members
-
-module _ {A : Type 0} (next : A → Result (HeaderStep × Names) HeaderRefusal) where
-  then_small : (P : A → Type 0) (r : Result A HeaderRefusal) → IfOk r P → ((a : A) → P a → StepIsSmall (next a)) →
-      StepIsSmall (r >>= next)
-  then_small P (Ok a) holds so = so a holds
-  then_small P (Err refusal) holds so = tt
-
-  any_small : (r : Result A HeaderRefusal) → ((a : A) → StepIsSmall (next a)) → StepIsSmall (r >>= next)
-  any_small (Ok a) so = so a
-  any_small (Err refusal) so = tt
-
-by_small : (h : HeaderReader) (line : List ℕ) (names : Names) → HeaderIsSmall h →
-    StepIsSmall (header_said_by h line names)
-unfolding header_said_by
-by_small header.Mode line names small =
-    any_small (λ m. Ok (More (header.Size m), names)) (mode_said (words_of line)) (λ m. tt)
-by_small (header.Size m) line names small =
-    then_small (λ n. Ok (More (header.Filter m n), names)) (λ n. n ≤ most_members) (size_of (words_of line))
-    (size_small (words_of line)) (λ n few. few)
-by_small (header.Filter m n) line names small =
-    any_small (λ f. Ok (More (header.Match n f.0), f.1)) (filter_of m line names) (λ f. small)
-by_small (header.Match n f) line names small =
-    any_small (λ c. Ok (More (header.Begin n f c.0), c.1)) (condition_after_word (codes "match") line names) (λ c. small)
-by_small (header.Begin n f c) line names small =
-    cond_both (is_word (codes "begin") (words_of line)) _ _ StepIsSmall (λ _. small) (λ _. tt)
-
-header_small : (h : HeaderReader) (line : List ℕ) (names : Names) → HeaderIsSmall h →
-    StepIsSmall (header_said h line names)
-unfolding header_said
-header_small h line names small =
-    cond_both (is_nothing_line line) (Ok (More h, names)) (header_said_by h line names) StepIsSmall (λ _. small)
-    (λ _. by_small h line names small)
-
--- ---- a line
-
--- what line n leads to, where at most `most` lines are allowed
-abbrev LineIsFine : ℕ → ℕ → Judgement → Type 0
-LineIsFine most n (refused why) = Unit {0}
-LineIsFine most n (moved next) = StageIsSmall next
-LineIsFine most n (accepted u pattern names g) = (n ≤ most) × AddsShortId u × (pattern.size ≤ most_members)
-
-module _ (most n : ℕ) where
-  header_fine : (step : Result (HeaderStep × Names) HeaderRefusal) → StepIsSmall step →
-      LineIsFine most n (header_judgement n step)
-  header_fine (Ok (More next, names)) small = small
-  header_fine (Ok (Ready program, names)) small = small
-  header_fine (Err refusal) small = tt
-
-  module _ (below : n ≤ most) where
-    step_fine : (pattern : Pattern) (names : Names) (u : Update) (stepped : Result Graph Refusal) →
-        pattern.size ≤ most_members → AddsShortId u → LineIsFine most n (step_judgement n pattern names u stepped)
-    step_fine pattern names u (Ok now) small short = (below, short, small)
-    step_fine pattern names u (Err refusal) small short = tt
-
-    said_fine : (pattern : Pattern) (names : Names) (g : Graph) (line : LineContent) → pattern.size ≤ most_members →
-        SaidIsShort line → LineIsFine most n (content_judgement n pattern names g line)
-    said_fine pattern names g nothing small short = small
-    said_fine pattern names g commit small short = small
-    said_fine pattern names g (update u later) small short = step_fine pattern later u (step g u) small short
-    said_fine pattern names g too_many_labels small short = tt
-    said_fine pattern names g bad_line small short = tt
-
-    line_fine : (stage : Stage) (bytes : List ℕ) → StageIsSmall stage → LineIsFine most n (line_judgement n stage bytes)
-    line_fine (heading next names) bytes small =
-        header_fine (header_said next (without_cr bytes) names) (header_small next (without_cr bytes) names small)
-    line_fine (streaming pattern names g) bytes small =
-        said_fine pattern names g (content_of_line names (without_cr bytes)) small (said_short names (without_cr bytes))
-
-  fine : (stage : Stage) (bytes : List ℕ) → StageIsSmall stage → LineIsFine most n (judgement most n stage bytes)
-  fine stage bytes small =
-      cond_both (nat_lt most n) _ _ (LineIsFine most n) (λ _. tt)
-      (λ within. cond_both (nat_lt most_line_bytes (length bytes)) _ _ (LineIsFine most n) (λ _. tt)
-      (λ _. line_fine (ltb-false most n within) stage bytes small))
-
--- ---- a job
-
--- a program of short pieces, and at most so many groups of updates, with short ids
-record JobIsFine (most : ℕ) (v : Verdict) : Type 0 where
-  small : IfSome v.pattern (λ pattern. pattern.size ≤ most_members)
-  few : length v.groups ≤ most
-  short : All (All AddsShortId) v.groups
-
-ended_fine : (most n : ℕ) (stage : Stage) (stop : Option Status) → StageIsSmall stage →
-    JobIsFine most (verdict_at_end n stage stop)
-ended_fine most n (heading next names) stop small =
-    record { small = tt; few = omega arith; short = All-nil (All AddsShortId) }
-ended_fine most n (streaming pattern names g) stop small =
-    record { small = small; few = omega arith; short = All-nil (All AddsShortId) }
-
-led_fine : (most n : ℕ) (stage : Stage) (j : Judgement) (rest : Stage → Verdict) → StageIsSmall stage →
-    LineIsFine most (suc n) j → ((next : Stage) → StageIsSmall next → JobIsFine (most - suc n) (rest next)) →
-    JobIsFine (most - n) (verdict_after n stage j rest)
-led_fine most n stage (refused why) rest small line_is rest_is = ended_fine (most - n) n stage (Some why) small
-led_fine most n stage (moved next) rest small line_is rest_is =
-    let job = rest_is next line_is in
-    record { small = job.small; few = omega (arith, job.few); short = job.short }
-led_fine most n stage (accepted u pattern names g) rest small line_is rest_is =
-    let job = rest_is (streaming pattern names g) line_is.2 in
-    record {
-      small = job.small;
-      few = omega (arith, line_is.0, job.few);
-      short =
-          All-cons (All AddsShortId) (u ∷ []) (rest (streaming pattern names g)).groups
-          (All-cons AddsShortId u [] line_is.1 (All-nil AddsShortId)) job.short;
-    }
-
-judge_fine : (most n : ℕ) (stage : Stage) (lines : List Line) → StageIsSmall stage →
-    JobIsFine (most - n) (verdict_from most n stage lines)
-judge_fine most n stage [] small = ended_fine (most - n) n stage None small
-judge_fine most n stage (line ∷ lines) small =
-    led_fine most n stage (judgement most (suc n) stage line.bytes) (λ next. verdict_from most (suc n) next lines) small
-    (fine most (suc n) stage line.bytes small) (λ next still. judge_fine most (suc n) next lines still)
-
--- ---- its records
-
-module _ (most : ℕ) (lines : List Line) (limit : most ≤ 10 ^ 19) where
-  abbrev groups : List Group
-  groups = (verdict most lines).groups
-
-  -- the history of a job can be told
-  pub IsTellable-job : (pattern : Pattern) → (verdict most lines).pattern ≡ Some pattern →
-      IsTellable pattern empty_graph (history empty_graph groups) (length groups)
-  IsTellable-job pattern is =
-      let job = judge_fine most 0 first_stage lines tt in
+  -- the history of a job can be told, up to any of its timestamps
+  pub IsTellable-job : (m : ℕ) → m ≤ length v.groups →
+      IsTellable pattern empty_graph (history empty_graph v.groups) m
+  IsTellable-job m within =
+      let job = verdict-bounded limits.lines lines in
       record {
         small = subst (λ p. IfSome p (λ pattern. pattern.size ≤ most_members)) is job.small;
         nothing_first = embeddings-empty pattern;
-        recordable = IsRecordable-history empty_graph groups IsRecordable-empty_graph job.short;
-        fits = omega (arith, limit, job.few);
+        recordable = IsRecordable-history empty_graph v.groups IsRecordable-empty_graph job.short;
+        fits = omega (arith, limit, job.few, within);
       }
 
-  pub fold_text-job : (pattern : Pattern) (t : ℕ) → (verdict most lines).pattern ≡ Some pattern →
-      t ≤ length groups →
-      fold_text (job_text (verdict most lines)) t
-      ≡ Some (pieces_of pattern.mode (embeddings pattern (snapshot groups t)))
-  fold_text-job pattern t is within =
-      ap (λ p. fold_text (text_under p groups) t) is
-      ∙ fold_text-upto pattern empty_graph (history empty_graph groups) (length groups) (IsTellable-job pattern is) t within
+  pub fold_text-job : (m t : ℕ) → IsWrittenUpto limits v pattern m → t ≤ m →
+      fold_text (output limits v).text t
+      ≡ Some (pieces_of pattern.mode (embeddings pattern (snapshot v.groups t)))
+  fold_text-job m t upto within =
+      ap (λ text. fold_text text t) upto.text_is
+      ∙ fold_text-upto pattern empty_graph (history empty_graph v.groups) m
+      (IsTellable-job m (written-within limits v pattern m upto)) t within

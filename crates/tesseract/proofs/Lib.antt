@@ -1,10 +1,10 @@
 pub mod Reaching
 pub mod Leading
 pub mod Going
-pub mod Taking
 pub mod Turning
-pub mod Making
+pub mod Standing
 mod Commands
 mod Jobs
 mod Listing
+mod Outputs
 pub mod Telling

@@ -1,3 +1,2 @@
 pub mod meaning
 pub mod calls
-pub mod storage

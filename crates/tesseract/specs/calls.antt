@@ -2,8 +2,6 @@
 pub mod Run
 pub mod Fold
 pub mod Miner
-pub mod Reading
-pub mod HeaderLine
 pub mod Turning
 pub mod Running
 pub mod Progress

@@ -1,4 +1,4 @@
 -- What is meant.
-pub mod Job
+pub mod Output
 pub mod Status
 pub mod Commands

@@ -1,12 +1,12 @@
-ghost use Rattle.std.specs.Prelude.{◌≡◌, ◌≢◌, ◌≤◌, ◌^◌};
+ghost use Rattle.std.specs.Prelude.{◌≡◌, ◌≢◌, ◌≤◌, ◌^◌, ◌⊎◌, Some};
 ghost use Rattle.job_io.specs.calls.Ends.{HasCause, Puts, HasRisen};
-ghost use Rattle.tesseract.specs.calls.Fold.{Folds, pieces_text, stop_status as stop_status_of};
+ghost use Rattle.tesseract.specs.calls.Fold.{Folds, pieces_text};
 
-use crate::status::{InputKind, LimitKind, Status};
+use crate::status::Status;
 use graph_types::{PieceList, Stamp};
 use job_io::{Page, Sink, Source, WriteFault};
 use record_text::write_listing;
-use snapshot_fold::{FoldStop, fold_records};
+use snapshot_fold::fold_records;
 use std::alloc::Global;
 
 /// Folds a text of records of at most `most` lines, and writes the pieces at timestamp `at`, or else at the
@@ -22,6 +22,10 @@ pub fn fold<S: Source, O: Sink>(
     ensures folded { Folds most at (S.left input.old) (S.left input.new)
         (O.written out.old) (O.written out.new) result }
     ensures not_usage { result ≢ Status.Usage }
+
+    // Before the first timestamp there are no pieces, whatever the text, which stays unread.
+    ensures unread { at ≡ Some 0 → input.new ≡ input.old }
+    ensures none { at ≡ Some 0 → (result ≡ Status.Ok) ⊎ (result ≡ Status.WriteFault) }
     ensures read_cause { result ≡ Status.ReadFault →
         HasRisen (S.faults input.old) (S.faults input.new) }
     ensures write_cause { result ≡ Status.WriteFault → HasRisen (O.faults out.old) (O.faults out.new) }
@@ -31,7 +35,7 @@ pub fn fold<S: Source, O: Sink>(
             Ok(()) => Status::Ok,
             Err(WriteFault) => Status::WriteFault,
         },
-        Err(stop) => stop_status(stop),
+        Err(stop) => Status::from(stop),
     }
 }
 
@@ -48,33 +52,4 @@ fn write<O: Sink>(out: &mut O, pieces: &PieceList) -> Result<(), WriteFault>
     let mut page = Page::new();
     write_listing(out, &mut page, pieces)?;
     page.send(out)
-}
-
-fn stop_status(stop: FoldStop) -> Status
-    ensures { result ≡ stop_status_of stop }
-{
-    match stop {
-        FoldStop::NoMemory => Status::NoMemory,
-        FoldStop::ReadFault => Status::ReadFault,
-        FoldStop::BadLine(line) => bad_input(line, InputKind::BadLine),
-        FoldStop::MixedModes(line) => bad_input(line, InputKind::MixedModes),
-        FoldStop::OutOfOrder(line) => bad_input(line, InputKind::OutOfOrder),
-        FoldStop::AddsPresent(line) => bad_input(line, InputKind::AddsPresent),
-        FoldStop::RemovesAbsent(line) => bad_input(line, InputKind::RemovesAbsent),
-        FoldStop::NotDone(line) => bad_input(line, InputKind::NotDone),
-        FoldStop::TooLong(at) => limit(LimitKind::LineBytes, at),
-        FoldStop::TooMany(at) => limit(LimitKind::Lines, at),
-    }
-}
-
-fn bad_input(line: u64, kind: InputKind) -> Status
-    ensures { result ≡ Status.BadInput line kind }
-{
-    Status::BadInput { line, kind }
-}
-
-fn limit(kind: LimitKind, at: u64) -> Status
-    ensures { result ≡ Status.Limit kind at }
-{
-    Status::Limit { kind, at }
 }

@@ -4,9 +4,8 @@
 #![tactic(auto)]
 
 mod fold;
-mod header;
-mod job;
-mod laws;
+pub mod laws;
+mod limits;
 mod mine;
 mod miner;
 mod run;

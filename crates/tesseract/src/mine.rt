@@ -1,32 +1,44 @@
-ghost use Rattle.std.specs.Prelude.{◌≡◌, ◌≢◌, ◌≤◌, ◌^◌, ℕ, [], List, Option, Some, IsTrue, Ok, OnErr};
+ghost use Rattle.std.specs.Prelude.{◌≡◌, ◌≢◌, Contains, ◌+◌, ◌<◌, ◌≤◌, ◌^◌, ◌⊎◌, ℕ, [], List, Option, Some, IsTrue, Ok, OnErr, OnOk};
+ghost use Rattle.job.specs.calls.Taking.{stage_of};
+ghost use Rattle.job.specs.meaning.Judging.{close_at};
+ghost use Rattle.job_io.specs.meaning.Lines.{lf};
 ghost use Rattle.job_io.specs.calls.Ends.{Gathers, HasCause, HasRisen};
-ghost use Rattle.tesseract.specs.calls.Reading.{changes_text, stage_of, job_stamp};
+ghost use Rattle.tesseract.specs.calls.Miner.{changes_text};
 ghost use Rattle.tesseract.specs.calls.Run.{Mines, WritesTold};
-ghost use Rattle.tesseract.specs.calls.Running.{IsRunning};
-ghost use Rattle.tesseract.specs.calls.Turning.{Advances, StandsAtNextAfter, Turns, MinesLines};
+ghost use Rattle.tesseract.specs.calls.Running.{IsRunning, StandsAt};
+ghost use Rattle.tesseract.specs.meaning.Status.{status_of_end};
+ghost use Rattle.tesseract.specs.calls.Turning.{Advances, MinesGroup, StandsAtNextAfter, Turns, MinesLines};
 
-use crate::job::{Job, Stop};
-use crate::miner::Changes;
+use crate::limits::Limits;
+use crate::miner::{Changes, Miner};
 use crate::status::{LimitKind, Status};
 use graph_types::Stamp;
+use job::{Job, Stream, Taken};
 use job_io::{LineFault, LineReader, Page, Sink, Source, WriteFault};
 use record_text::{write_delta, write_done};
 use std::alloc::Global;
 
+/// A run between two lines: all that was accepted is mined.
+#[derive(Drop)]
+pub struct Run {
+    pub job: Job,
+    pub miner: Miner,
+}
+
 /// What a line leads to.
 #[derive(Drop)]
 pub enum Turn {
-    More(Job),
+    More(Run),
     End(Status),
 }
 
-/// Mines a job of at most `most` lines: reads it line by line, and writes what each update takes
-/// away and brings. Output is held back in a page, and sent before the source is asked for more.
-pub fn mine<S: Source, O: Sink>(alloc: Global, most: u64, input: &mut S, out: &mut O) -> Status
-    requires { most ≤ 10 ^ 19 }
-    ensures mined { Mines most (S.left input.old) (S.left input.new)
+/// Mines a job within these limits: reads it line by line, and writes what each update takes away and
+/// brings. Output is held back in a page, and sent before the source is asked for more.
+pub fn mine<S: Source, O: Sink>(alloc: Global, limits: Limits, input: &mut S, out: &mut O) -> Status
+    requires { limits.lines ≤ 10 ^ 19 }
+    ensures mined { Mines limits (S.left input.old) (S.left input.new)
         (O.written out.old) (O.written out.new) result }
-    ensures tells { WritesTold most (S.left input.old) (S.left input.new)
+    ensures tells { WritesTold limits (S.left input.old) (S.left input.new)
         (O.written out.old) (O.written out.new) }
     ensures not_usage { result ≢ Status.Usage }
     ensures read_cause { result ≡ Status.ReadFault →
@@ -34,7 +46,7 @@ pub fn mine<S: Source, O: Sink>(alloc: Global, most: u64, input: &mut S, out: &m
     ensures write_cause { result ≡ Status.WriteFault → HasRisen (O.faults out.old) (O.faults out.new) }
 {
     let mut page = Page::new();
-    match mine_lines(alloc, most, &mut page, input, out) {
+    match mine_lines(alloc, limits, &mut page, input, out) {
         Ok(status) => match page.send(out) {
             Ok(()) => status,
             Err(WriteFault) => Status::WriteFault,
@@ -46,14 +58,14 @@ pub fn mine<S: Source, O: Sink>(alloc: Global, most: u64, input: &mut S, out: &m
 /// Takes all lines. What the page holds at the end is still to be sent.
 fn mine_lines<S: Source, O: Sink>(
     alloc: Global,
-    most: u64,
+    limits: Limits,
     page: &mut Page,
     input: &mut S,
     out: &mut O,
 ) -> Result<Status, WriteFault>
-    requires few { most ≤ 10 ^ 19 }
+    requires few { limits.lines ≤ 10 ^ 19 }
     requires fresh { page.old ≡ [] }
-    ensures mined { MinesLines most (S.left input.old) (S.left input.new)
+    ensures mined { MinesLines limits (S.left input.old) (S.left input.new)
         (O.written out.old) (O.written out.new) page.new result }
     ensures reads { S.faults input.old ≤ S.faults input.new }
     ensures writes { O.faults out.old ≤ O.faults out.new }
@@ -61,35 +73,39 @@ fn mine_lines<S: Source, O: Sink>(
         HasRisen (S.faults input.old) (S.faults input.new) }
     ensures write_cause { OnErr result (HasRisen (O.faults out.old) (O.faults out.new)) }
 {
-    let Ok(mut reader) = LineReader::new(alloc, most) else {
+    let Ok(mut reader) = LineReader::new(alloc, limits.lines) else {
         return Ok(Status::NoMemory);
     };
-    let Ok(mut job) = Job::new(alloc) else {
+    let Ok(job) = Job::new(alloc) else {
         return Ok(Status::NoMemory);
     };
+    let miner = Miner::new(alloc);
+    let mut run = Run { job, miner };
     'lines: loop {
-        match take_line(alloc, &mut reader, job, page, input, out)? {
-            Turn::More(next) => job = next,
+        match take_line(alloc, limits.records, &mut reader, run, page, input, out)? {
+            Turn::More(next) => run = next,
             Turn::End(status) => return Ok(status),
         }
     }
 }
 
-/// Takes the next line.
+/// Takes the next line, whose timestamp may have at most `most` records.
 fn take_line<S: Source, O: Sink>(
     alloc: Global,
+    most: u64,
     reader: &mut LineReader,
-    job: Job,
+    run: Run,
     page: &mut Page,
     input: &mut S,
     out: &mut O,
 ) -> Result<Turn, WriteFault>
     requires live { IsTrue reader.old.live }
-    requires stamped { job_stamp job ≤ reader.old.number }
+    requires stamped { run.miner.stamp ≤ reader.old.number }
+    requires stands { StandsAt (stage_of run.job) run.miner.standing }
     ensures runs { (left0 written0 : Option (List ℕ)) →
-        IsRunning reader.old.most left0 (S.left input.old) written0 (O.written out.old)
-        page.old reader.old (stage_of job) (job_stamp job) →
-        Turns reader.old.most left0 (S.left input.new) written0 (O.written out.new)
+        IsRunning (record { lines = reader.old.most; records = most }) left0 (S.left input.old) written0 (O.written out.old)
+        page.old reader.old (stage_of run.job) run.miner.stamp →
+        Turns (record { lines = reader.old.most; records = most }) left0 (S.left input.new) written0 (O.written out.new)
         page.new reader.new result }
     ensures goes { StandsAtNextAfter reader.old reader.new result }
     ensures reads { S.faults input.old ≤ S.faults input.new }
@@ -99,17 +115,44 @@ fn take_line<S: Source, O: Sink>(
     ensures write_cause { OnErr result (HasRisen (O.faults out.old) (O.faults out.new)) }
 {
     send_before_wait(reader, page, out)?;
-    if let Some(status) = advance(reader, &job, input) {
+    let Run { job, miner } = run;
+    if let Some(status) = advance(reader, page, &job, input) {
         return Ok(Turn::End(status));
     }
     match job.take(alloc, reader.number(), reader.bytes()) {
-        Ok((job, changes)) => {
-            write_changes(out, page, job.stamp(), &changes)?;
-            Ok(Turn::More(job))
-        }
-        Err(Stop::Refused(status)) => Ok(Turn::End(status)),
-        Err(Stop::NoMemory) => Ok(Turn::End(Status::NoMemory)),
+        Ok(Taken::Moved(job)) => Ok(Turn::More(Run { job, miner })),
+        Ok(Taken::Accepted(stream)) => mine_group(alloc, most, stream, miner, page, out),
+        Err(fault) => Ok(Turn::End(Status::from(fault))),
     }
+}
+
+/// Mines the group of updates that led to this stream, and writes its records, of which there may be `most`.
+fn mine_group<O: Sink>(
+    alloc: Global,
+    most: u64,
+    stream: Stream,
+    miner: Miner,
+    page: &mut Page,
+    out: &mut O,
+) -> Result<Turn, WriteFault>
+    requires { miner.stamp + 1 < 2 ^ 64 }
+    ensures mines { MinesGroup most stream miner (O.written out.old) page.old (O.written out.new) page.new result }
+    ensures cause { HasCause (O.faults out.old) (O.faults out.new) result }
+{
+    let Ok((miner, changes)) = miner.advance(alloc, &stream.program, &stream.graph) else {
+        return Ok(Turn::End(Status::NoMemory));
+    };
+    if changes.are_more_than(most) {
+        return Ok(Turn::End(Status::Limit {
+            kind: LimitKind::Records,
+            at: miner.stamp.0,
+        }));
+    }
+    write_changes(out, page, miner.stamp, &changes)?;
+    Ok(Turn::More(Run {
+        job: Job::Streaming(stream),
+        miner,
+    }))
 }
 
 /// Sends what the page holds, unless the next line is there already.
@@ -119,6 +162,7 @@ fn send_before_wait<O: Sink>(
     out: &mut O,
 ) -> Result<(), WriteFault>
     ensures sent { Gathers (O.written out.old) page.old (O.written out.new) page.new [] result }
+    ensures nothing_waits { OnOk result ((page.new ≡ []) ⊎ Contains reader.now.held lf) }
     ensures cause { HasCause (O.faults out.old) (O.faults out.new) result }
 {
     if reader.ready() {
@@ -127,9 +171,16 @@ fn send_before_wait<O: Sink>(
     page.send(out)
 }
 
-/// Moves to the next line, or tells why the job ends.
-fn advance<S: Source>(reader: &mut LineReader, job: &Job, input: &mut S) -> Option<Status>
-    requires { IsTrue reader.old.live }
+/// Moves to the next line, or tells why the job ends. The source may wait, so no record may be held back
+/// unless the next line is there already.
+fn advance<S: Source>(
+    reader: &mut LineReader,
+    page: &Page,
+    job: &Job,
+    input: &mut S,
+) -> Option<Status>
+    requires live { IsTrue reader.old.live }
+    requires nothing_waits { (page.now ≡ []) ⊎ Contains reader.old.held lf }
     ensures advances { Advances (stage_of job.now) reader.old reader.new
         (S.left input.old) (S.left input.new) result }
     ensures reads { S.faults input.old ≤ S.faults input.new }
@@ -138,7 +189,7 @@ fn advance<S: Source>(reader: &mut LineReader, job: &Job, input: &mut S) -> Opti
 {
     match reader.next(input) {
         Ok(true) => None,
-        Ok(false) => Some(job.end(reader.number())),
+        Ok(false) => Some(end_of(job, reader.number())),
         Err(LineFault::ReadFault) => Some(Status::ReadFault),
         Err(LineFault::TooLong(at)) => Some(Status::Limit {
             kind: LimitKind::LineBytes,
@@ -151,20 +202,27 @@ fn advance<S: Source>(reader: &mut LineReader, job: &Job, input: &mut S) -> Opti
     }
 }
 
-/// Writes the records of a timestamp and the line that closes it, if there are any changes.
+/// How a job ends of which `number` lines were all.
+fn end_of(job: &Job, number: u64) -> Status
+    ensures { result ≡ status_of_end (close_at number (stage_of job.now)) }
+{
+    match job.close(number) {
+        None => Status::Ok,
+        Some(why) => Status::from(why),
+    }
+}
+
+/// Writes the records of a timestamp and the line that closes it.
 fn write_changes<O: Sink>(
     out: &mut O,
     page: &mut Page,
     t: Stamp,
-    changes: &Option<Changes>,
+    changes: &Changes,
 ) -> Result<(), WriteFault>
     ensures text { Gathers (O.written out.old) page.old (O.written out.new) page.new
         (changes_text t changes.now) result }
     ensures cause { HasCause (O.faults out.old) (O.faults out.new) result }
 {
-    let Some(changes) = changes else {
-        return Ok(());
-    };
     write_delta(out, page, t, &changes.rem, &changes.add)?;
     write_done(out, page, t)
 }

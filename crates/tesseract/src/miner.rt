@@ -1,38 +1,19 @@
-ghost use Rattle.std.specs.Prelude.{◌≡◌, ◌+◌, ◌<◌, ◌^◌};
-ghost use Rattle.graph_types.specs.meaning.Graph.{empty_graph};
-ghost use Rattle.tesseract.specs.calls.Miner.{Makes};
+ghost use Rattle.std.specs.Prelude.{◌≡◌, ◌+◌, ◌<◌, ◌^◌, [], IfOk, nat_lt};
+ghost use Rattle.tesseract.specs.calls.Miner.{IsMined, change_count};
 
 use filter_polarity::Program;
-use graph_types::{PieceList, Snapshot, Stamp, Update};
+use graph_types::{NoMemory, PieceList, Snapshot, Stamp};
 use plain_miner::{embeddings, without};
 use std::alloc::Global;
-use std::marker::Model;
-use update_rules::{StepFault, step};
 
-/// A graph that changes, and the pieces that a program finds in it now. Contracts see the program, the
-/// graph and the last timestamp.
+/// The embeddings at a timestamp, ascending.
 #[derive(Drop)]
 pub struct Miner {
-    program: Program,
-    graph: Snapshot,
-    standing: PieceList,
-    stamp: Stamp,
+    pub standing: PieceList,
+    pub stamp: Stamp,
 }
 
-impl Model for Miner {
-    ghost use Rattle.filter_polarity.specs.contracts.program.Program as programs;
-    ghost use Rattle.tesseract.specs.storage.Mining.{MiningState, mining_code, IsMining};
-
-    ghost Value = { MiningState };
-
-    ghost coded = { mining_code programs.the_row.coded };
-
-    ghost view = { λ m. record { program = m.program; graph = m.graph; stamp = m.stamp } };
-
-    ghost invariant = { λ m. IsMining m.program m.graph m.standing };
-}
-
-/// What an update took away and what it brought, both ascending.
+/// What a group of updates took away and what it brought, both ascending.
 #[derive(Drop)]
 pub struct Changes {
     pub rem: PieceList,
@@ -40,48 +21,44 @@ pub struct Changes {
 }
 
 impl Miner {
-    /// Before the first update.
-    pub fn new(alloc: Global, program: Program) -> Miner
-        ensures { result ≡ record { program = program; graph = empty_graph; stamp = 0 } }
+    /// Before the first timestamp there are none. It takes its memory from `alloc`, and none yet.
+    pub fn new(alloc: Global) -> Miner
+        ensures pieces { result.standing ≡ [] }
+        ensures stamp { result.stamp ≡ 0 }
     {
         Miner {
-            program,
-            graph: Snapshot::new(alloc),
             standing: PieceList::new(alloc),
             stamp: Stamp(0),
         }
     }
 
-    /// The timestamp of the last update.
-    pub fn stamp(&self) -> Stamp
-        ensures { result ≡ self.now.stamp }
-    {
-        self.stamp
-    }
-
-    /// Makes an update, and lists the pieces anew: this takes time exponential in the size.
-    pub fn make(self, alloc: Global, update: &Update) -> Result<(Miner, Changes), StepFault>
+    /// Goes on to the next timestamp, at which the graph is this: lists its embeddings anew, which takes time
+    /// exponential in the size, and compares them with those that stood, each with each.
+    pub fn advance(
+        self,
+        alloc: Global,
+        program: &Program,
+        graph: &Snapshot,
+    ) -> Result<(Miner, Changes), NoMemory>
         requires { self.stamp + 1 < 2 ^ 64 }
-        ensures { Makes self update.now result }
+        ensures { IfOk result (λ made. IsMined self program.now graph.now made.0 made.1) }
     {
-        let Miner {
-            program,
-            mut graph,
-            standing: before,
-            stamp,
-        } = self;
-        step(&mut graph, update)?;
-        let standing = embeddings(alloc, &program, &graph)?;
+        let standing = embeddings(alloc, program, graph)?;
         let changes = Changes {
-            rem: without(alloc, &before, &standing)?,
-            add: without(alloc, &standing, &before)?,
+            rem: without(alloc, &self.standing, &standing)?,
+            add: without(alloc, &standing, &self.standing)?,
         };
-        let miner = Miner {
-            program,
-            graph,
-            standing,
-            stamp: Stamp(stamp.0 + 1),
-        };
-        Ok((miner, changes))
+        let stamp = Stamp(self.stamp.0 + 1);
+        Ok((Miner { standing, stamp }, changes))
+    }
+}
+
+impl Changes {
+    /// Whether there are more than `most`.
+    pub fn are_more_than(&self, most: u64) -> bool
+        ensures { result ≡ nat_lt most (change_count self.now) }
+    {
+        let removed = self.rem.len() as u64;
+        removed > most || self.add.len() as u64 > most - removed
     }
 }

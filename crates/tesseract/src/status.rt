@@ -1,9 +1,13 @@
 ghost use Rattle.std.specs.Prelude.{◌≡◌, ◌≤◌, ◌++◌, length, codes, decimal};
-ghost use Rattle.tesseract.specs.meaning.Status.{word_text, program_kind, input_kind, limit_kind};
+ghost use Rattle.tesseract.specs.meaning.Status.{fold_refusal_text, input_kind, limit_kind, program_kind, refusal_text};
+ghost use Rattle.tesseract.specs.meaning.Status.{word_text};
 
-use graph_types::VertexId;
+use command_words::WordsFault;
+use graph_types::Refusal;
+use job::{JobFault, JobRefusal};
 use job_io::ShortLine;
-use program_grammar::Word;
+use program_grammar::{ProgramKind, Word};
+use snapshot_fold::{FoldRefusal, FoldStop};
 
 /// How a run ended.
 #[derive(Clone, Copy, Debug, PartialEq, Eq)]
@@ -26,46 +30,15 @@ pub enum Status {
     WriteFault,
 }
 
-/// What is wrong with a header.
-#[derive(Clone, Copy, Debug, PartialEq, Eq)]
-pub enum ProgramKind {
-    /// A line has another form than the next one of a header.
-    BadLine,
-    /// The input ends before the line that begins with this word.
-    Missing(Word),
-    /// The size is a number, and not 1 to 8.
-    SizeRange,
-    /// More than 32 `not` and parentheses are open at once in a condition.
-    TooDeep,
-    /// A condition has more than 512 tokens.
-    TooLong,
-    /// The filter is not falling in the mode.
-    NotFalling,
-}
-
-/// What is wrong with a line of the stream, or with a line of the records.
+/// What is wrong with a line of the stream, or with the records.
 #[derive(Clone, Copy, Debug, PartialEq, Eq)]
 pub enum InputKind {
-    /// It is no update, or no record.
+    /// The line is no update, or no record.
     BadLine,
-    /// Both ends of an edge are the same vertex.
-    Loop,
-    /// A vertex that has to be there is absent: the first one that was written.
-    NoVertex(VertexId),
-    /// The vertex that is to be added is there.
-    VertexExists,
-    /// The edge that is to be added is there.
-    EdgeExists,
-    /// The edge that is to be removed or labelled is absent.
-    NoEdge,
-    /// The piece of a record is of another mode than the first one.
-    MixedModes,
-    /// A record isn't in its place among the others.
-    OutOfOrder,
-    /// The piece that is to come is there.
-    AddsPresent,
-    /// The piece that is to go isn't there.
-    RemovesAbsent,
+    /// The graph refuses the update.
+    Update(Refusal),
+    /// The record contradicts those before it.
+    Record(FoldRefusal),
     /// The records end, and the timestamp that was named isn't done.
     NotDone,
 }
@@ -79,6 +52,85 @@ pub enum LimitKind {
     Labels,
     /// The bytes of a line.
     LineBytes,
+    /// The records of a timestamp.
+    Records,
+}
+
+impl From<WordsFault> for Status {
+    ghost use Rattle.std.specs.Prelude.{◌≡◌};
+    ghost use Rattle.tesseract.specs.meaning.Status.{status_of_words};
+
+    ghost from_gives = { λ fault status. status ≡ status_of_words fault };
+
+    fn from(fault: WordsFault) -> Status {
+        match fault {
+            WordsFault::Usage => Status::Usage,
+            WordsFault::NoMemory => Status::NoMemory,
+        }
+    }
+}
+
+impl From<JobRefusal> for Status {
+    ghost use Rattle.std.specs.Prelude.{◌≡◌};
+    ghost use Rattle.tesseract.specs.meaning.Status.{status_of_refusal};
+
+    ghost from_gives = { λ refusal status. status ≡ status_of_refusal refusal };
+
+    fn from(refusal: JobRefusal) -> Status {
+        match refusal {
+            JobRefusal::Program { line, kind } => Status::BadProgram { line, kind },
+            JobRefusal::BadLine(line) => bad_input(line, InputKind::BadLine),
+            JobRefusal::Update { line, why } => bad_input(line, InputKind::Update(why)),
+            JobRefusal::Labels(at) => passed(LimitKind::Labels, at),
+            JobRefusal::LineBytes(at) => passed(LimitKind::LineBytes, at),
+            JobRefusal::Lines(at) => passed(LimitKind::Lines, at),
+        }
+    }
+}
+
+impl From<JobFault> for Status {
+    ghost use Rattle.std.specs.Prelude.{◌≡◌};
+    ghost use Rattle.tesseract.specs.meaning.Status.{status_of_fault};
+
+    ghost from_gives = { λ fault status. status ≡ status_of_fault fault };
+
+    fn from(fault: JobFault) -> Status {
+        match fault {
+            JobFault::Refused(why) => Status::from(why),
+            JobFault::NoMemory => Status::NoMemory,
+        }
+    }
+}
+
+impl From<FoldStop> for Status {
+    ghost use Rattle.std.specs.Prelude.{◌≡◌};
+    ghost use Rattle.tesseract.specs.meaning.Status.{status_of_fold};
+
+    ghost from_gives = { λ stop status. status ≡ status_of_fold stop };
+
+    fn from(stop: FoldStop) -> Status {
+        match stop {
+            FoldStop::NoMemory => Status::NoMemory,
+            FoldStop::ReadFault => Status::ReadFault,
+            FoldStop::BadLine(line) => bad_input(line, InputKind::BadLine),
+            FoldStop::Refused { line, why } => bad_input(line, InputKind::Record(why)),
+            FoldStop::NotDone(line) => bad_input(line, InputKind::NotDone),
+            FoldStop::TooLong(at) => passed(LimitKind::LineBytes, at),
+            FoldStop::TooMany(at) => passed(LimitKind::Lines, at),
+        }
+    }
+}
+
+fn bad_input(line: u64, kind: InputKind) -> Status
+    ensures { result ≡ Status.BadInput line kind }
+{
+    Status::BadInput { line, kind }
+}
+
+fn passed(kind: LimitKind, at: u64) -> Status
+    ensures { result ≡ Status.Limit kind at }
+{
+    Status::Limit { kind, at }
 }
 
 impl Status {
@@ -108,7 +160,9 @@ impl Status {
             Status::Ok => ShortLine::new(),
             Status::NoMemory => phrase(b"no memory\n"),
             Status::Usage => phrase(b"usage: tesseract COMMAND [--NAME VALUE]\n"),
-            Status::BadProgram { line, kind } => refusal(b"program: line ", *line, &kind.name()),
+            Status::BadProgram { line, kind } => {
+                refusal(b"program: line ", *line, &program_kind_name(*kind))
+            }
             Status::BadInput { line, kind } => refusal(b"input: line ", *line, &kind.name()),
             Status::Limit { kind, at } => limit(&kind.name(), *at),
             Status::ReadFault => phrase(b"read fault\n"),
@@ -117,23 +171,21 @@ impl Status {
     }
 }
 
-impl ProgramKind {
-    fn name(&self) -> ShortLine
-        ensures name { result ≡ program_kind self.now }
-        ensures short { length result ≤ 100 }
-    {
-        match self {
-            ProgramKind::BadLine => phrase(b"BadLine"),
-            ProgramKind::Missing(word) => {
-                let mut name = phrase(b"Missing ");
-                name.push(word_bytes(*word));
-                name
-            }
-            ProgramKind::SizeRange => phrase(b"SizeRange"),
-            ProgramKind::TooDeep => phrase(b"TooDeep"),
-            ProgramKind::TooLong => phrase(b"TooLong"),
-            ProgramKind::NotFalling => phrase(b"NotFalling"),
+fn program_kind_name(kind: ProgramKind) -> ShortLine
+    ensures name { result ≡ program_kind kind }
+    ensures short { length result ≤ 100 }
+{
+    match kind {
+        ProgramKind::BadLine => phrase(b"BadLine"),
+        ProgramKind::Missing(word) => {
+            let mut name = phrase(b"Missing ");
+            name.push(word_bytes(word));
+            name
         }
+        ProgramKind::SizeRange => phrase(b"SizeRange"),
+        ProgramKind::TooDeep => phrase(b"TooDeep"),
+        ProgramKind::TooLong => phrase(b"TooLong"),
+        ProgramKind::NotFalling => phrase(b"NotFalling"),
     }
 }
 
@@ -157,21 +209,39 @@ impl InputKind {
     {
         match self {
             InputKind::BadLine => phrase(b"BadLine"),
-            InputKind::Loop => phrase(b"Loop"),
-            InputKind::NoVertex(v) => {
-                let mut name = phrase(b"NoVertex ");
-                name.push_number(u64::from(v.0));
-                name
-            }
-            InputKind::VertexExists => phrase(b"VertexExists"),
-            InputKind::EdgeExists => phrase(b"EdgeExists"),
-            InputKind::NoEdge => phrase(b"NoEdge"),
-            InputKind::MixedModes => phrase(b"MixedModes"),
-            InputKind::OutOfOrder => phrase(b"OutOfOrder"),
-            InputKind::AddsPresent => phrase(b"AddsPresent"),
-            InputKind::RemovesAbsent => phrase(b"RemovesAbsent"),
+            InputKind::Update(why) => refusal_name(why),
+            InputKind::Record(why) => fold_refusal_name(*why),
             InputKind::NotDone => phrase(b"NotDone"),
         }
+    }
+}
+
+fn refusal_name(why: &Refusal) -> ShortLine
+    ensures name { result ≡ refusal_text why.now }
+    ensures short { length result ≤ 100 }
+{
+    match why {
+        Refusal::Loop => phrase(b"Loop"),
+        Refusal::NoVertex(v) => {
+            let mut name = phrase(b"NoVertex ");
+            name.push_number(u64::from(v.0));
+            name
+        }
+        Refusal::VertexExists => phrase(b"VertexExists"),
+        Refusal::EdgeExists => phrase(b"EdgeExists"),
+        Refusal::NoEdge => phrase(b"NoEdge"),
+    }
+}
+
+fn fold_refusal_name(why: FoldRefusal) -> ShortLine
+    ensures name { result ≡ fold_refusal_text why }
+    ensures short { length result ≤ 100 }
+{
+    match why {
+        FoldRefusal::MixedModes => phrase(b"MixedModes"),
+        FoldRefusal::OutOfOrder => phrase(b"OutOfOrder"),
+        FoldRefusal::AddsPresent => phrase(b"AddsPresent"),
+        FoldRefusal::RemovesAbsent => phrase(b"RemovesAbsent"),
     }
 }
 
@@ -184,6 +254,7 @@ impl LimitKind {
             LimitKind::Lines => phrase(b"Lines"),
             LimitKind::Labels => phrase(b"Labels"),
             LimitKind::LineBytes => phrase(b"LineBytes"),
+            LimitKind::Records => phrase(b"Records"),
         }
     }
 }

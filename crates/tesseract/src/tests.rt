@@ -1,8 +1,6 @@
 //! Runs whose ends fail in mid-stream, which no file can be made to do.
 
-use crate::mine::mine;
 use crate::run::run;
-use crate::status::{LimitKind, Status};
 use graph_types::{FreeGate, NoMemory};
 use job_io::{ByteList, CallList, MemorySink, MemorySource};
 use std::alloc::Global;
@@ -160,18 +158,5 @@ fn runs_whose_ends_fail(rt: HostRuntime) -> Result<(), Fail> {
         assert_eq!(rt; output.bytes(), row.output);
         assert_eq!(rt; error.bytes(), row.error);
     }
-    Ok(())
-}
-
-#[test]
-fn one_line_too_many(rt: HostRuntime) -> Result<(), Fail> {
-    let limit = Status::Limit {
-        kind: LimitKind::Lines,
-        at: 8,
-    };
-    let mut input = source(rt.alloc(), JOB, 0)?;
-    let mut output = sink(rt.alloc(), 1000, 0)?;
-    assert_eq!(rt; mine(rt.alloc(), 7, &mut input, &mut output), limit);
-    assert_eq!(rt; output.bytes(), b"DONE 1\nDONE 2\n".as_slice());
     Ok(())
 }

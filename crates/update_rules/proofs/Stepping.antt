@@ -12,7 +12,9 @@ use Rattle.graph_types.specs.meaning.Graph.{Graph, HasEnds, edge_between, ends_a
 use Rattle.graph_types.specs.meaning.Orders.{pair_cmp_total}
 use Rattle.graph_types.specs.meaning.Simple.{IsSimple}
 use Rattle.graph_types.proofs.Graph.{EdgesHaveEnds-with_edge, EdgesHaveEnds-without_edge, EdgesHaveEnds-without_vertex, HasEnds-between, has_vertex-kept, pair_cmp-IsAntisymmetric}
-use Rattle.mining_model.specs.meaning.Step.{Refusal, is_loop, no_vertex, edge_exists, no_edge, add_edge, remove_edge, label_edge, at_edge, graph_after, graph_left_by}
+use Rattle.graph_types.specs.declared.refusal.Refusal.{Refusal}
+use Rattle.graph_types.specs.declared.refusal.Refusal.TheVariants as refusal
+use Rattle.mining_model.specs.meaning.Step.{add_edge, remove_edge, label_edge, at_edge, graph_after, graph_left_by}
 use Rattle.shared_lemmas.proofs.FiniteMaps.{contains_key-kept}
 
 IsSimple-with_vertex : (g : Graph) (v label : ℕ) → IsSimple g → IsSimple (with_vertex g v label)
@@ -62,11 +64,11 @@ module _ (g : Graph) (simple : IsSimple g) where
 
   IsSimple-at_edge : (from to : ℕ) (update : ℕ × ℕ → Result Graph Refusal) → ((e : ℕ × ℕ) → HasEnds g e → e.0 < e.1 → IsSimple (graph_left_by g (update e))) → IsSimple (graph_left_by g (at_edge g from to update))
   IsSimple-at_edge from to update each =
-      elim (eqb from to) as (λ b. eqb from to ≡ b → IsSimple (graph_left_by g (if b then Err is_loop else (if not (has_vertex g from) then Err (no_vertex from) else (if not (has_vertex g to) then Err (no_vertex to) else update (edge_between from to)))))) [
+      elim (eqb from to) as (λ b. eqb from to ≡ b → IsSimple (graph_left_by g (if b then Err refusal.Loop else (if not (has_vertex g from) then Err (refusal.NoVertex from) else (if not (has_vertex g to) then Err (refusal.NoVertex to) else update (edge_between from to)))))) [
         | true ↦ λ _. simple
-        | false ↦ λ apart. elim (has_vertex g from) as (λ b. has_vertex g from ≡ b → IsSimple (graph_left_by g (if not b then Err (no_vertex from) else (if not (has_vertex g to) then Err (no_vertex to) else update (edge_between from to))))) [
+        | false ↦ λ apart. elim (has_vertex g from) as (λ b. has_vertex g from ≡ b → IsSimple (graph_left_by g (if not b then Err (refusal.NoVertex from) else (if not (has_vertex g to) then Err (refusal.NoVertex to) else update (edge_between from to))))) [
           | false ↦ λ _. simple
-          | true ↦ λ first. elim (has_vertex g to) as (λ b. has_vertex g to ≡ b → IsSimple (graph_left_by g (if not b then Err (no_vertex to) else update (edge_between from to)))) [
+          | true ↦ λ first. elim (has_vertex g to) as (λ b. has_vertex g to ≡ b → IsSimple (graph_left_by g (if not b then Err (refusal.NoVertex to) else update (edge_between from to)))) [
             | false ↦ λ _. simple
             | true ↦ λ second. each (edge_between from to) (HasEnds-between g from to first second) (between_rises from to apart)
           ] refl
@@ -77,6 +79,6 @@ module _ (g : Graph) (simple : IsSimple g) where
   IsSimple-graph_after (AddVertex id label) = if_refused (has_vertex g id) _ (with_vertex g id label) (IsSimple-with_vertex g id label simple)
   IsSimple-graph_after (RemoveVertex id) = if_accepted (has_vertex g id) _ (without_vertex g id) (IsSimple-without_vertex g id simple)
   IsSimple-graph_after (LabelVertex id label) = if_accepted (has_vertex g id) _ (with_vertex g id label) (IsSimple-with_vertex g id label simple)
-  IsSimple-graph_after (AddEdge from to label) = IsSimple-at_edge from to (add_edge g label) (λ e own below. if_refused (has_edge g e) edge_exists (with_edge g e label) (IsSimple-with_edge g e label own below simple))
-  IsSimple-graph_after (RemoveEdge from to) = IsSimple-at_edge from to (remove_edge g) (λ e own below. if_accepted (has_edge g e) no_edge (without_edge g e) (IsSimple-without_edge g e simple))
-  IsSimple-graph_after (LabelEdge from to label) = IsSimple-at_edge from to (label_edge g label) (λ e own below. if_accepted (has_edge g e) no_edge (with_edge g e label) (IsSimple-with_edge g e label own below simple))
+  IsSimple-graph_after (AddEdge from to label) = IsSimple-at_edge from to (add_edge g label) (λ e own below. if_refused (has_edge g e) refusal.EdgeExists (with_edge g e label) (IsSimple-with_edge g e label own below simple))
+  IsSimple-graph_after (RemoveEdge from to) = IsSimple-at_edge from to (remove_edge g) (λ e own below. if_accepted (has_edge g e) refusal.NoEdge (without_edge g e) (IsSimple-without_edge g e simple))
+  IsSimple-graph_after (LabelEdge from to label) = IsSimple-at_edge from to (label_edge g label) (λ e own below. if_accepted (has_edge g e) refusal.NoEdge (with_edge g e label) (IsSimple-with_edge g e label own below simple))

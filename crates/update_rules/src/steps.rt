@@ -3,21 +3,13 @@ ghost use Rattle.graph_types.specs.meaning.Graph.{edge_between, with_edge, witho
 ghost use Rattle.mining_model.specs.meaning.Step.{graph_after, step as graph_step};
 ghost use Rattle.update_rules.specs.calls.Steps.{Admits, AreEnds, Joins, Steps};
 
-use graph_types::{Edge, LabelId, NoMemory, Snapshot, Update, VertexId};
+use graph_types::{Edge, LabelId, NoMemory, Refusal, Snapshot, Update, VertexId};
 
-/// Why a snapshot refuses an update. The first that applies is told, in this order.
+/// Why an update was not made.
 #[derive(Clone, Copy, Debug, PartialEq, Eq)]
 pub enum StepFault {
-    /// The ends of the edge are one vertex.
-    Loop,
-    /// This vertex has to be there, and is not: the first one that was written.
-    NoVertex(VertexId),
-    /// The vertex that is to be added is there.
-    VertexExists,
-    /// The edge that is to be added is there.
-    EdgeExists,
-    /// The edge that is to be removed or labelled is absent.
-    NoEdge,
+    /// The snapshot refuses it.
+    Refused(Refusal),
     /// An allocation was refused.
     NoMemory,
 }
@@ -32,18 +24,20 @@ impl From<NoMemory> for StepFault {
     }
 }
 
-/// Makes the update, in a few look-ups and one change; to remove a vertex takes time linear in the
-/// number of edges. A label may be given again. A refused update changes nothing.
+/// Makes the update, in a few look-ups and one change; to remove a vertex takes a look-up more for each
+/// of its edges. A label may be given again. A refused update changes nothing.
 pub fn step(graph: &mut Snapshot, update: &Update) -> Result<(), StepFault>
     ensures { Steps graph.old update.now result graph.new }
 {
-    admit(graph, update)?;
+    if let Err(why) = admit(graph, update) {
+        return Err(StepFault::Refused(why));
+    }
     apply(graph, update)?;
     Ok(())
 }
 
 /// Whether the snapshot accepts the update, and else why not, in a few look-ups. It takes no memory.
-pub(crate) fn admit(graph: &Snapshot, update: &Update) -> Result<(), StepFault>
+pub(crate) fn admit(graph: &Snapshot, update: &Update) -> Result<(), Refusal>
     ensures { Admits graph.now update.now result }
 {
     match *update {
@@ -78,58 +72,58 @@ pub(crate) fn apply(graph: &mut Snapshot, update: &Update) -> Result<(), NoMemor
     }
 }
 
-fn admit_new_vertex(graph: &Snapshot, id: VertexId) -> Result<(), StepFault>
+fn admit_new_vertex(graph: &Snapshot, id: VertexId) -> Result<(), Refusal>
     ensures { (label : ℕ) → Admits graph.now (Update.AddVertex id label) result }
 {
     if graph.label(id).is_some() {
-        return Err(StepFault::VertexExists);
+        return Err(Refusal::VertexExists);
     }
     Ok(())
 }
 
-fn admit_known_vertex(graph: &Snapshot, id: VertexId) -> Result<(), StepFault>
+fn admit_known_vertex(graph: &Snapshot, id: VertexId) -> Result<(), Refusal>
     ensures remove { Admits graph.now (Update.RemoveVertex id) result }
     ensures label { (label : ℕ) → Admits graph.now (Update.LabelVertex id label) result }
 {
     if graph.label(id).is_none() {
-        return Err(StepFault::NoVertex(id));
+        return Err(Refusal::NoVertex(id));
     }
     Ok(())
 }
 
-fn admit_new_edge(graph: &Snapshot, from: VertexId, to: VertexId) -> Result<(), StepFault>
+fn admit_new_edge(graph: &Snapshot, from: VertexId, to: VertexId) -> Result<(), Refusal>
     ensures { (label : ℕ) → Admits graph.now (Update.AddEdge from to label) result }
 {
     let edge = joining(graph, from, to)?;
     if graph.edge_label(edge).is_some() {
-        return Err(StepFault::EdgeExists);
+        return Err(Refusal::EdgeExists);
     }
     Ok(())
 }
 
-fn admit_known_edge(graph: &Snapshot, from: VertexId, to: VertexId) -> Result<(), StepFault>
+fn admit_known_edge(graph: &Snapshot, from: VertexId, to: VertexId) -> Result<(), Refusal>
     ensures remove { Admits graph.now (Update.RemoveEdge from to) result }
     ensures label { (label : ℕ) → Admits graph.now (Update.LabelEdge from to label) result }
 {
     let edge = joining(graph, from, to)?;
     if graph.edge_label(edge).is_none() {
-        return Err(StepFault::NoEdge);
+        return Err(Refusal::NoEdge);
     }
     Ok(())
 }
 
 /// The edge between two vertices that are there.
-fn joining(graph: &Snapshot, from: VertexId, to: VertexId) -> Result<Edge, StepFault>
+fn joining(graph: &Snapshot, from: VertexId, to: VertexId) -> Result<Edge, Refusal>
     ensures { Joins graph.now from to result }
 {
     let Some(edge) = Edge::of(from, to) else {
-        return Err(StepFault::Loop);
+        return Err(Refusal::Loop);
     };
     if graph.label(from).is_none() {
-        return Err(StepFault::NoVertex(from));
+        return Err(Refusal::NoVertex(from));
     }
     if graph.label(to).is_none() {
-        return Err(StepFault::NoVertex(to));
+        return Err(Refusal::NoVertex(to));
     }
     Ok(edge)
 }

@@ -1,12 +1,18 @@
 -- Graphs that follow one another, and the groups of updates that lead from each to the next.
-use Rattle.std.specs.Prelude.{ℕ, zero, suc, List, [], ◌∷◌}
+use Rattle.std.specs.Prelude.{ℕ, zero, suc, ◌<◌, ◌^◌, List, [], ◌∷◌}
 use Rattle.graph_types.specs.meaning.Graph.{Graph, empty_graph}
 use Rattle.graph_types.specs.declared.update.Update.{Update}
+use Rattle.graph_types.specs.declared.update.Update.TheVariants.{AddVertex}
 use Rattle.mining_model.specs.meaning.Step.{graph_after_all}
 
 -- the updates that share a timestamp
 abbrev pub Group : Type 0
 Group = List Update
+
+-- the id of a vertex that the update adds fits 32 bits; other updates add none
+abbrev pub AddsShortId : Update → Type 0
+AddsShortId (AddVertex id label) = id < 2 ^ 32
+AddsShortId u = Unit {0}
 
 -- the graphs after some groups of updates, one after the other, from g on
 abbrev pub history : Graph → List Group → List Graph

@@ -6,8 +6,8 @@ use Rattle.line_fields.specs.meaning.Names.{Names, number_in}
 use Rattle.conditions.specs.meaning.Written.{most_tokens}
 use Rattle.conditions.specs.declared.condition.Cond.{Cond}
 use Rattle.conditions.specs.declared.condition.Factor.{Factor}
-use Rattle.program_grammar.specs.declared.fault.Refusal.{Refusal}
-use Rattle.program_grammar.specs.declared.fault.Refusal.TheVariants.{BadLine}
+use Rattle.program_grammar.specs.declared.fault.ProgramKind.{ProgramKind}
+use Rattle.program_grammar.specs.declared.fault.ProgramKind.TheVariants.{BadLine}
 use Rattle.program_grammar.specs.declared.fault.ReadError.{ReadError}
 use Rattle.program_grammar.specs.declared.fault.ReadError.TheVariants as error
 use Rattle.program_grammar.specs.meaning.Token.{Token, plus, tokens_code}
@@ -40,13 +40,13 @@ AreNew names [] = Unit {0}
 AreNew names (label ∷ labels) = IsTrue (is_label_word label) × (number_in names label ≡ None) × AreNew (names ++ label ∷ []) labels
 
 -- what was read of the tokens, as a production says, or its refusal; or memory ran out
-abbrev pub ReadsProduction : {A : Type 0} → Result A ReadError → ReaderState → Result (A × List Token × Names) Refusal → Type 0
+abbrev pub ReadsProduction : {A : Type 0} → Result A ReadError → ReaderState → Result (A × List Token × Names) ProgramKind → Type 0
 ReadsProduction (Ok x) left read = read ≡ Ok (x, left.tokens, left.names)
 ReadsProduction (Err error.NoMemory) left read = Unit {0}
 ReadsProduction (Err (error.Refused f)) left read = read ≡ Err f
 
 -- the same of what names no label and takes no memory; the names stay
-abbrev pub ReadsTokens : {A : Type 0} → ReaderState → Result A Refusal → ReaderState → Result (A × List Token) Refusal → Type 0
+abbrev pub ReadsTokens : {A : Type 0} → ReaderState → Result A ProgramKind → ReaderState → Result (A × List Token) ProgramKind → Type 0
 ReadsTokens old (Ok x) new read = (read ≡ Ok (x, new.tokens)) × (new.names ≡ old.names)
 ReadsTokens old (Err f) new read = read ≡ Err f
 
@@ -88,12 +88,12 @@ abbrev pub AddsFirst : List (List ℕ) → Names → Names → Type 0
 AddsFirst labels old new = (n : ℕ) × (new ≡ old ++ take n labels)
 
 -- a refusal is that of the definition, unless memory ran out
-abbrev pub RefusesAs : {A : Type 0} → ReadError → Result A Refusal → Type 0
+abbrev pub RefusesAs : {A : Type 0} → ReadError → Result A ProgramKind → Type 0
 RefusesAs error.NoMemory read = Unit {0}
 RefusesAs (error.Refused f) read = read ≡ Err f
 
 -- the condition is read with these labels after the names, each of them new
-pub record Parses (names : Names) (said : Result (Cond × Names) Refusal) (c : Cond) (labels : List (List ℕ)) : Type 0 where
+pub record Parses (names : Names) (said : Result (Cond × Names) ProgramKind) (c : Cond) (labels : List (List ℕ)) : Type 0 where
   pub read : said ≡ Ok (c, names ++ labels)
   pub new : AreNew names labels
   pub few : length labels ≤ most_tokens

@@ -13,8 +13,8 @@ use Rattle.conditions.specs.declared.condition.Op.{Op}
 use Rattle.conditions.specs.declared.condition.Term.{Term}
 use Rattle.conditions.specs.declared.condition.Term.TheVariants as term
 use Rattle.conditions.specs.meaning.Written.{most_times, most_bound, most_factors, most_depth, most_tokens}
-use Rattle.program_grammar.specs.declared.fault.Refusal.{Refusal}
-use Rattle.program_grammar.specs.declared.fault.Refusal.TheVariants.{BadLine, TooLong, TooDeep}
+use Rattle.program_grammar.specs.declared.fault.ProgramKind.{ProgramKind}
+use Rattle.program_grammar.specs.declared.fault.ProgramKind.TheVariants.{BadLine, TooLong, TooDeep}
 use Rattle.program_grammar.specs.declared.term_name.TermName.{TermName}
 use Rattle.program_grammar.specs.declared.term_name.TermName.TheVariants as name
 use Rattle.program_grammar.specs.meaning.Token.{Token, is_same_token, bytes_in, digits_in, op_in, word, opening, closing, comma, plus, times}
@@ -22,13 +22,13 @@ use Rattle.program_grammar.specs.meaning.Lexing.{tokens_of}
 
 -- what was read, the tokens after it, and the names then
 abbrev pub ReadResult : Type 0 → Type 0
-ReadResult A = Result (A × List Token × Names) Refusal
+ReadResult A = Result (A × List Token × Names) ProgramKind
 
 abbrev pub Production : Type 0 → Type 0
 Production A = List Token → Names → ReadResult A
 
 infixl 10 ◌>>=◌
-abbrev pub ◌>>=◌ : {A B : Type 0} → Result A Refusal → (A → Result B Refusal) → Result B Refusal
+abbrev pub ◌>>=◌ : {A B : Type 0} → Result A ProgramKind → (A → Result B ProgramKind) → Result B ProgramKind
 (Ok x) >>= f = f x
 (Err e) >>= f = Err e
 
@@ -38,11 +38,11 @@ tokens_after t [] = None
 tokens_after t (u ∷ ts) = if is_same_token u t then Some ts else None
 
 -- the same, where it has to come first
-abbrev pub or_bad_line : {A : Type 0} → Option A → Result A Refusal
+abbrev pub or_bad_line : {A : Type 0} → Option A → Result A ProgramKind
 or_bad_line (Some x) = Ok x
 or_bad_line None = Err BadLine
 
-abbrev pub tokens_past : Token → List Token → Result (List Token) Refusal
+abbrev pub tokens_past : Token → List Token → Result (List Token) ProgramKind
 tokens_past t ts = or_bad_line (tokens_after t ts)
 
 -- the number of a label, and the names then: a new label takes the next number
@@ -69,17 +69,17 @@ abbrev pub at_most : ℕ → Option ℕ → Option ℕ
 at_most most (Some n) = if nat_le n most then Some n else None
 at_most most None = None
 
-abbrev pub value_up_to : ℕ → List ℕ → Result ℕ Refusal
+abbrev pub value_up_to : ℕ → List ℕ → Result ℕ ProgramKind
 value_up_to most digits = or_bad_line (at_most most (number_of 10 digits))
 
-unfoldable pub bound : List Token → Result (ℕ × List Token) Refusal
+unfoldable pub bound : List Token → Result (ℕ × List Token) ProgramKind
 bound ts = do
   d ← or_bad_line (first_of digits_in ts)
   n ← value_up_to most_bound d.0
   Ok (n, d.1)
 
 -- op
-unfoldable pub operator : List Token → Result (Op × List Token) Refusal
+unfoldable pub operator : List Token → Result (Op × List Token) ProgramKind
 operator ts = or_bad_line (first_of op_in ts)
 
 -- the name of a term
@@ -94,7 +94,7 @@ term_name w =
     else if bytes_eq w (codes "least") then Some name.Least
     else None
 
-unfoldable pub named_term : List Token → Result (TermName × List Token) Refusal
+unfoldable pub named_term : List Token → Result (TermName × List Token) ProgramKind
 named_term ts = do
   w ← or_bad_line (first_of bytes_in ts)
   n ← or_bad_line (term_name w.0)
@@ -135,14 +135,14 @@ unfoldable pub term_of : Production Term
 term_of ts names = named_term ts >>= λ n. term_after_name n.0 n.1 names
 
 -- [ factor "*" ]: 1 where none is written
-abbrev pub factor_by : List Token → Option (List ℕ × List Token) → Result (ℕ × List Token) Refusal
+abbrev pub factor_by : List Token → Option (List ℕ × List Token) → Result (ℕ × List Token) ProgramKind
 factor_by ts None = Ok (1, ts)
 factor_by ts (Some d) = do
   n ← value_up_to most_times d.0
   rest ← tokens_past times d.1
   Ok (n, rest)
 
-unfoldable pub factor : List Token → Result (ℕ × List Token) Refusal
+unfoldable pub factor : List Token → Result (ℕ × List Token) ProgramKind
 factor ts = factor_by ts (first_of digits_in ts)
 
 -- use = [ factor "*" ] term
@@ -227,18 +227,18 @@ nested_within zero = record { cond = λ ts names. Err TooDeep; neg = λ ts names
 nested_within (suc room) = record { cond = cond_within (nested_within room); neg = neg (nested_within room) }
 
 -- a condition, and nothing after it
-abbrev pub nothing_after : Cond × List Token × Names → Result (Cond × Names) Refusal
+abbrev pub nothing_after : Cond × List Token × Names → Result (Cond × Names) ProgramKind
 nothing_after (c, [], names) = Ok (c, names)
 nothing_after (c, t ∷ ts, names) = Err BadLine
 
-unfoldable pub condition : List Token → Names → Result (Cond × Names) Refusal
+unfoldable pub condition : List Token → Names → Result (Cond × Names) ProgramKind
 condition ts names = cond_within (nested_within most_depth) ts names >>= nothing_after
 
 -- The condition that a text says, and the names then. Before the tokens are read, each byte has to be in one,
 -- and there may not be too many.
-abbrev pub condition_of_tokens : Option (List Token) → Names → Result (Cond × Names) Refusal
+abbrev pub condition_of_tokens : Option (List Token) → Names → Result (Cond × Names) ProgramKind
 condition_of_tokens None names = Err BadLine
 condition_of_tokens (Some ts) names = if nat_lt most_tokens (length ts) then Err TooLong else condition ts names
 
-unfoldable pub condition_of : List ℕ → Names → Result (Cond × Names) Refusal
+unfoldable pub condition_of : List ℕ → Names → Result (Cond × Names) ProgramKind
 condition_of text names = condition_of_tokens (tokens_of text) names

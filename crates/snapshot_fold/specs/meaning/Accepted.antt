@@ -1,4 +1,4 @@
--- Texts of records that a fold takes without a fault, and what a cut off one tells.
+-- Texts of records that a fold takes whole, and what a cut off one tells.
 use Rattle.std.specs.Prelude.{◌≡◌, ◌↔◌, ◌⊎◌, ℕ, ◌≤◌, IsTrue, List, [], ◌∷◌, map, Option, Some}
 use Rattle.std.specs.Option.{option_and_then, is_some}
 use Rattle.graph_types.specs.meaning.Graph.{Graph}
@@ -22,7 +22,7 @@ abbrev pub SayDone : List Line → ℕ → Type 0
 SayDone [] t = ⊥
 SayDone (line ∷ lines) t = (record_of (without_cr line.bytes) ≡ Some (Done t)) ⊎ SayDone lines t
 
--- the fold after some lines, where each is a record or nothing, and has no fault
+-- the fold after some lines, where each is nothing, or a record that is not refused
 abbrev pub state_after_lines : FoldState → List Line → Option FoldState
 state_after_lines s [] = Some s
 state_after_lines s (line ∷ lines) = option_and_then (λ next. state_after_lines next lines) (state_after_line s line)
@@ -30,7 +30,7 @@ state_after_lines s (line ∷ lines) = option_and_then (λ next. state_after_lin
 -- a text of which a fold takes each whole line, up to timestamp m
 pub record IsAccepted (text : List ℕ) (m : ℕ) : Type 0 where
   pub end : FoldState
-  -- Each whole line is a record or nothing, and has no fault.
+  -- Each whole line is nothing, or a record that is not refused.
   pub accepted : state_after_lines empty_fold (whole_lines_of text) ≡ Some end
   -- After them m is the last timestamp that is done.
   pub done_is : end.done ≡ m

@@ -4,15 +4,15 @@ use Rattle.std.specs.Option.{option_and_then}
 use Rattle.graph_types.specs.meaning.Piece.{PieceValue}
 use Rattle.job_io.specs.meaning.Lines.{Line, whole_lines_of, without_cr}
 use Rattle.record_text.specs.meaning.Grammar.{record_of}
-use Rattle.snapshot_fold.specs.declared.fault.FoldFault.{FoldFault}
+use Rattle.snapshot_fold.specs.declared.fault.FoldRefusal.{FoldRefusal}
 use Rattle.snapshot_fold.specs.meaning.FoldState.{FoldState, empty_fold}
 use Rattle.snapshot_fold.specs.meaning.Taking.{state_after_record}
 
-abbrev pub accepted_state : Result FoldState FoldFault → Option FoldState
+abbrev pub accepted_state : Result FoldState FoldRefusal → Option FoldState
 accepted_state (Ok behind) = Some behind
-accepted_state (Err fault) = None
+accepted_state (Err why) = None
 
--- the fold after a line, where the line is a record or nothing, and has no fault
+-- the fold after a line, where the line is nothing, or a record that is not refused
 abbrev pub state_after_line : FoldState → Line → Option FoldState
 state_after_line s line = option_and_then (λ said. accepted_state (state_after_record s said)) (record_of (without_cr line.bytes))
 

@@ -6,24 +6,16 @@ use Rattle.job_io.specs.meaning.Lines.{Line, without_cr, most_line_bytes}
 use Rattle.record_text.specs.meaning.Grammar.{record_of}
 use Rattle.record_text.specs.declared.read.RecordLine.{RecordLine}
 use Rattle.record_text.specs.declared.read.RecordLine.TheVariants.{Done}
-use Rattle.snapshot_fold.specs.declared.fault.FoldFault.{FoldFault}
-use Rattle.snapshot_fold.specs.declared.fault.FoldFault.TheVariants as fault
+use Rattle.snapshot_fold.specs.declared.fault.FoldRefusal.{FoldRefusal}
 use Rattle.snapshot_fold.specs.declared.folding.FoldStop.{FoldStop}
 use Rattle.snapshot_fold.specs.declared.folding.FoldStop.TheVariants as stop
 use Rattle.snapshot_fold.specs.meaning.FoldState.{FoldState, empty_fold}
 use Rattle.snapshot_fold.specs.meaning.Taking.{state_after_record}
 
--- the stop that a record's fault makes at line n
-abbrev pub stop_at : ℕ → FoldFault → FoldStop
-stop_at n fault.MixedModes = stop.MixedModes n
-stop_at n fault.OutOfOrder = stop.OutOfOrder n
-stop_at n fault.AddsPresent = stop.AddsPresent n
-stop_at n fault.RemovesAbsent = stop.RemovesAbsent n
-stop_at n fault.NoMemory = stop.NoMemory
-
-abbrev pub state_or_stop : ℕ → Result FoldState FoldFault → Result FoldState FoldStop
+-- what a record at line n leads to
+abbrev pub state_or_stop : ℕ → Result FoldState FoldRefusal → Result FoldState FoldStop
 state_or_stop n (Ok behind) = Ok behind
-state_or_stop n (Err fault) = Err (stop_at n fault)
+state_or_stop n (Err why) = Err (stop.Refused n why)
 
 -- line n, by what it says
 abbrev pub state_after_content : ℕ → FoldState → Option RecordLine → Result FoldState FoldStop

@@ -1,4 +1,4 @@
--- What a record does to a fold, or its first fault.
+-- What a record does to a fold, or why it is refused.
 use Rattle.std.specs.Prelude.{◌≡◌, ℕ, ◌+◌, Bool, false, not, ◌&&◌, eqb, Option, None, Some, Result, Ok, Err, if◌then◌else◌}
 use Rattle.std.specs.Option.{is_none}
 use Rattle.std.specs.Ordering.{is_eq}
@@ -7,7 +7,9 @@ use Rattle.graph_types.specs.meaning.Piece.{PieceValue, mode_cmp}
 use Rattle.record_text.specs.declared.read.RecordLine.{RecordLine}
 use Rattle.record_text.specs.declared.read.RecordLine.TheVariants.{Nothing, Rem, Add, Done}
 use Rattle.snapshot_fold.specs.declared.fault.FoldFault.{FoldFault}
-use Rattle.snapshot_fold.specs.declared.fault.FoldFault.TheVariants.{MixedModes, OutOfOrder, AddsPresent, RemovesAbsent, NoMemory}
+use Rattle.snapshot_fold.specs.declared.fault.FoldFault.TheVariants.{Refused, NoMemory}
+use Rattle.snapshot_fold.specs.declared.fault.FoldRefusal.{FoldRefusal}
+use Rattle.snapshot_fold.specs.declared.fault.FoldRefusal.TheVariants.{MixedModes, OutOfOrder, AddsPresent, RemovesAbsent}
 use Rattle.snapshot_fold.specs.meaning.FoldState.{FoldState}
 use Rattle.snapshot_fold.specs.meaning.Pieces.{is_above, has_piece, with_piece, without_piece}
 
@@ -43,8 +45,8 @@ after_new s p = record s { mode = Some p.mode; held = with_piece s.held p; last_
 abbrev pub after_done : FoldState → ℕ → FoldState
 after_done s t = record s { done = t; settled = s.held; last_rem = None; last_new = None }
 
--- the fold after a record, or the record's first fault
-abbrev pub state_after_record : FoldState → RecordLine → Result FoldState FoldFault
+-- the fold after a record, or the first reason to refuse it
+abbrev pub state_after_record : FoldState → RecordLine → Result FoldState FoldRefusal
 state_after_record s Nothing = Ok s
 state_after_record s (Rem t p) =
     if is_of_other_mode s p then Err MixedModes
@@ -58,7 +60,7 @@ state_after_record s (Add t p) =
     else Ok (after_new s p)
 state_after_record s (Done t) = if is_open s t then Ok (after_done s t) else Err OutOfOrder
 
--- a refusal is the record's first fault, or out of memory where it has none
-abbrev pub IsRecordRefusal : Result FoldState FoldFault → FoldFault → Type 0
-IsRecordRefusal (Ok behind) fault = fault ≡ NoMemory
-IsRecordRefusal (Err first) fault = fault ≡ first
+-- the record is refused for this reason; or memory ran out, and it isn't refused
+abbrev pub IsRecordFault : Result FoldState FoldRefusal → FoldFault → Type 0
+IsRecordFault (Ok behind) fault = fault ≡ NoMemory
+IsRecordFault (Err why) fault = fault ≡ Refused why

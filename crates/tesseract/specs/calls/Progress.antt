@@ -1,23 +1,39 @@
--- How far the reading of a job has come, and what is left of it.
-use Rattle.std.specs.Prelude.{◌≡◌, ℕ, List, ◌++◌}
+-- How far a job has come, and what is left of it.
+use Rattle.std.specs.Prelude.{◌≡◌, ℕ, List, [], ◌++◌}
+use Rattle.graph_types.specs.meaning.Graph.{Graph}
 use Rattle.job_io.specs.meaning.Lines.{Line}
-use Rattle.mining_model.specs.meaning.History.{history}
-use Rattle.record_text.specs.meaning.Text.{text_from}
-use Rattle.tesseract.specs.meaning.Job.{Stage, heading, streaming, Verdict, verdict_from, verdict}
-use Rattle.tesseract.specs.meaning.Job.{job_text, text_under, job_end}
+use Rattle.mining_model.specs.meaning.History.{Group}
+use Rattle.job.specs.meaning.Judging.{Stage, graph_at_stage, Verdict, verdict_from, verdict, reading_end}
+use Rattle.tesseract.specs.declared.limits.Limits.{Limits}
+use Rattle.tesseract.specs.meaning.Output.{Output, with_text, output_under, output}
+use Rattle.tesseract.specs.meaning.Status.{status_of_end}
 
--- the text of a verdict on what follows a stage that t timestamps led to
-abbrev pub text_from_stage : Stage → ℕ → Verdict → List ℕ
-text_from_stage (heading next names) t v = text_under v.pattern v.groups
-text_from_stage (streaming pattern names g) t v = text_from pattern g t (history g v.groups)
+-- How many lines were judged, and where this led; the last timestamp that was mined, and the graph there; and the
+-- groups that were accepted since and wait to be mined.
+pub record Progress : Type 0 where
+  pub lines : ℕ
+  pub stage : Stage
+  pub stamp : ℕ
+  pub mined : Graph
+  pub waiting : List Group
 
--- After these n lines the job stands at a stage, with t timestamps whose text this is: whatever
--- lines follow, the verdict on all is that on those after the stage.
-pub record HasReached (most : ℕ) (gone : List Line) (text : List ℕ) (n t : ℕ) (stage : Stage) :
-    Type 0 where
-  pub whole_text : (lines : List Line) →
-      job_text (verdict most (gone ++ lines)) ≡ text ++ text_from_stage stage t (verdict_from most n stage lines)
-  pub whole_end : (lines : List Line) →
-      job_end (verdict most (gone ++ lines)) ≡ job_end (verdict_from most n stage lines)
+-- all that was accepted is mined
+abbrev pub all_mined : ℕ → Stage → ℕ → Progress
+all_mined n stage t =
+    record { lines = n; stage = stage; stamp = t; mined = graph_at_stage stage; waiting = [] }
+
+-- what is written from there on, by the verdict on the lines to come
+abbrev pub output_to_come : Limits → Progress → Verdict → Output
+output_to_come limits p v =
+    output_under limits.records v.pattern p.mined p.stamp (p.waiting ++ v.groups) (status_of_end (reading_end v))
+
+-- After these lines a job has come so far, and this is the text of what was mined: whatever lines follow, what
+-- is said of all of them is said of those to come.
+pub record HasReached (limits : Limits) (gone : List Line) (text : List ℕ) (p : Progress) : Type 0 where
+  pub whole_output : (lines : List Line) →
+      output limits (verdict limits.lines (gone ++ lines))
+      ≡ with_text text (output_to_come limits p (verdict_from limits.lines p.lines p.stage lines))
   pub whole_stop : (lines : List Line) →
-      (verdict most (gone ++ lines)).stop ≡ (verdict_from most n stage lines).stop
+      (verdict limits.lines (gone ++ lines)).stop ≡ (verdict_from limits.lines p.lines p.stage lines).stop
+  pub whole_close : (lines : List Line) →
+      (verdict limits.lines (gone ++ lines)).close ≡ (verdict_from limits.lines p.lines p.stage lines).close

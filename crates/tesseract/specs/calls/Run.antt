@@ -1,5 +1,5 @@
 -- What a run leaves: on its sink, by how it ended, and on standard error.
-use Rattle.std.specs.Prelude.{◌≡◌, ℕ, ◌≤◌, ◌⊎◌, IsTrue, List, ◌++◌, length, Option, None, Some}
+use Rattle.std.specs.Prelude.{◌≡◌, ◌↔◌, ℕ, ◌≤◌, ◌⊎◌, IsTrue, List, ◌++◌, length, Option, None, Some}
 use Rattle.std.specs.Io.KnownBytes.{Appends}
 use Rattle.std.specs.Option.{is_some}
 use Rattle.graph_types.specs.meaning.Piece.{PieceValue}
@@ -12,53 +12,62 @@ use Rattle.snapshot_fold.specs.meaning.FoldText.{fold_text}
 use Rattle.snapshot_fold.specs.meaning.Records.{pieces_of}
 use Rattle.tesseract.specs.declared.status.Status.{Status}
 use Rattle.tesseract.specs.declared.status.Status.TheVariants as status
-use Rattle.tesseract.specs.meaning.Job.{Verdict, verdict, job_text, job_end}
+use Rattle.tesseract.specs.declared.limits.Limits.{Limits}
+use Rattle.job.specs.meaning.Judging.{Verdict, verdict}
+use Rattle.tesseract.specs.meaning.Output.{most_record_lines, output}
+use Rattle.tesseract.specs.meaning.Status.{status_line, status_of_end}
+use Rattle.command_words.specs.meaning.Words.{command_of}
+use Rattle.tesseract.specs.meaning.Commands.{fold_command}
+use Rattle.tesseract.specs.calls.Fold.{Folds}
 
--- The whole input was judged: this is its text, and this is how its job ends.
-pub record IsJob (most : ℕ) (bytes text : List ℕ) (why : Status) : Type 0 where
-  pub text_is : text ≡ job_text (verdict most (lines_of bytes))
-  pub end_is : why ≡ job_end (verdict most (lines_of bytes))
+-- This is the text of a whole input, and this is how its job ends.
+pub record IsJob (limits : Limits) (bytes text : List ℕ) (why : Status) : Type 0 where
+  pub text_is : text ≡ (output limits (verdict limits.lines (lines_of bytes))).text
+  pub end_is : why ≡ (output limits (verdict limits.lines (lines_of bytes))).end
 
--- The source failed after it gave some of the input: this is the text of the lines whose LF it
--- gave, and none of them is refused.
-pub record IsPrefixOfJob (most : ℕ) (bytes is text : List ℕ) : Type 0 where
+-- The source failed after it gave some of the input: this is the whole text of the lines whose LF it
+-- gave. None of them is refused, and none has too many records.
+pub record IsPrefixOfJob (limits : Limits) (bytes is text : List ℕ) : Type 0 where
   pub taken : List ℕ
   pub split : bytes ≡ taken ++ is
-  pub text_is : text ≡ job_text (verdict most (whole_lines_of taken))
-  pub no_stop : (verdict most (whole_lines_of taken)).stop ≡ None
+  pub text_is : text ≡ (output limits (verdict limits.lines (whole_lines_of taken))).text
+  pub no_stop : (verdict limits.lines (whole_lines_of taken)).stop ≡ None
+  pub no_limit :
+      (output limits (verdict limits.lines (whole_lines_of taken))).end
+      ≡ status_of_end (verdict limits.lines (whole_lines_of taken)).close
 
 -- The input's text is written, and the status is how its job ends.
-abbrev pub WritesText : ℕ → Option (List ℕ) → Option (List ℕ) → Option (List ℕ) → Option (List ℕ) →
+abbrev pub WritesText : Limits → Option (List ℕ) → Option (List ℕ) → Option (List ℕ) → Option (List ℕ) →
     Status → Type 0
-WritesText most left0 left written0 written why =
+WritesText limits left0 left written0 written why =
     BothKnown left0 left (λ bytes is.
-    (text : List ℕ) × IsJob most bytes text why × Appends written0 written text)
+    (text : List ℕ) × IsJob limits bytes text why × Appends written0 written text)
 
 -- The lines whose LF the source gave before it failed are judged, and their text is written.
-abbrev pub WritesUnread : ℕ → Option (List ℕ) → Option (List ℕ) → Option (List ℕ) →
+abbrev pub WritesUnread : Limits → Option (List ℕ) → Option (List ℕ) → Option (List ℕ) →
     Option (List ℕ) → Type 0
-WritesUnread most left0 left written0 written =
+WritesUnread limits left0 left written0 written =
     BothKnown left0 left (λ bytes is.
-    (text : List ℕ) × IsPrefixOfJob most bytes is text × Appends written0 written text)
+    (text : List ℕ) × IsPrefixOfJob limits bytes is text × Appends written0 written text)
 
 -- A prefix of the input's text is written.
-abbrev pub WritesPrefix : ℕ → Option (List ℕ) → Option (List ℕ) → Option (List ℕ) →
+abbrev pub WritesPrefix : Limits → Option (List ℕ) → Option (List ℕ) → Option (List ℕ) →
     Option (List ℕ) → Type 0
-WritesPrefix most left0 left written0 written =
+WritesPrefix limits left0 left written0 written =
     BothKnown left0 left (λ bytes is.
-    AppendsPrefix written0 written (job_text (verdict most (lines_of bytes))))
+    AppendsPrefix written0 written (output limits (verdict limits.lines (lines_of bytes))).text)
 
 -- What mining leaves, by its status. The source had left0 and has `left`, the sink had written0 and
--- has `written`, where they tell; at most `most` lines are allowed.
-abbrev pub Mines : ℕ → Option (List ℕ) → Option (List ℕ) → Option (List ℕ) → Option (List ℕ) →
+-- has `written`, where they tell.
+abbrev pub Mines : Limits → Option (List ℕ) → Option (List ℕ) → Option (List ℕ) → Option (List ℕ) →
     Status → Type 0
-Mines most left0 left written0 written status.NoMemory =
-    WritesPrefix most left0 left written0 written
-Mines most left0 left written0 written status.WriteFault =
-    WritesPrefix most left0 left written0 written
-Mines most left0 left written0 written status.ReadFault =
-    WritesUnread most left0 left written0 written
-Mines most left0 left written0 written why = WritesText most left0 left written0 written why
+Mines limits left0 left written0 written status.NoMemory =
+    WritesPrefix limits left0 left written0 written
+Mines limits left0 left written0 written status.WriteFault =
+    WritesPrefix limits left0 left written0 written
+Mines limits left0 left written0 written status.ReadFault =
+    WritesUnread limits left0 left written0 written
+Mines limits left0 left written0 written why = WritesText limits left0 left written0 written why
 
 -- The pieces are the embeddings of a job's snapshot at timestamp t, each once and in their order.
 pub record AreEmbeddingsAt (v : Verdict) (t : ℕ) (pieces : List PieceValue) : Type 0 where
@@ -69,20 +78,39 @@ pub record AreEmbeddingsAt (v : Verdict) (t : ℕ) (pieces : List PieceValue) : 
   pub exact : pieces ≡ pieces_of pattern.mode (embeddings pattern (snapshot v.groups t))
 
 -- What bytes tell that were written for the job of an input.
-pub record TellJob (most : ℕ) (input written : List ℕ) : Type 0 where
+pub record TellJob (limits : Limits) (input written : List ℕ) : Type 0 where
   -- Where folding them up to a timestamp from 1 on gives pieces, these are the job's embeddings there.
   pub exact : (t : ℕ) (pieces : List PieceValue) → 1 ≤ t → fold_text written t ≡ Some pieces →
-      AreEmbeddingsAt (verdict most (lines_of input)) t pieces
+      AreEmbeddingsAt (verdict limits.lines (lines_of input)) t pieces
   -- It does, where one of their whole lines says that the timestamp is done.
   pub where_done : (t : ℕ) → SayDone (whole_lines_of written) t → IsTrue (is_some (fold_text written t))
 
 -- What was written tells the job of the whole input, however far it came.
-abbrev pub WritesTold : ℕ → Option (List ℕ) → Option (List ℕ) → Option (List ℕ) → Option (List ℕ) → Type 0
-WritesTold most left0 left written0 written =
+abbrev pub WritesTold : Limits → Option (List ℕ) → Option (List ℕ) → Option (List ℕ) → Option (List ℕ) → Type 0
+WritesTold limits left0 left written0 written =
     BothKnown left0 left (λ bytes is.
-    (text : List ℕ) × Appends written0 written text × TellJob most bytes text)
+    (text : List ℕ) × Appends written0 written text × TellJob limits bytes text)
 
 -- The line is told in full, or in part where the sink failed.
 abbrev pub Tells : Option (List ℕ) → Option (List ℕ) → ℕ → ℕ → List ℕ → Type 0
 Tells old new before now line =
     Appends old new line ⊎ (HasRisen before now × AppendsPrefix old new line)
+
+-- a source or a sink: the bytes that are left or written, where it tells them, and how often it failed
+pub record EndState : Type 0 where
+  pub bytes : Option (List ℕ)
+  pub faults : ℕ
+
+-- What every call leaves that is handed the words of a command line, beside what mining writes: `input`, `out` and
+-- `err` are the ends now, input0, out0 and err0 what they were.
+pub record AnswersWords (words : List (List ℕ)) (input0 input out0 out err0 err : EndState) (why : Status) : Type 0 where
+  -- Usage is told exactly of words that give no command.
+  pub usage : (why ≡ status.Usage) ↔ (command_of words ≡ None)
+  -- `fold` writes the pieces that the records tell of.
+  pub folded : (at : Option ℕ) → command_of words ≡ Some (fold_command at) →
+      Folds most_record_lines at input0.bytes input.bytes out0.bytes out.bytes why
+  -- A fault is told only of an end that failed in this call.
+  pub read_cause : why ≡ status.ReadFault → HasRisen input0.faults input.faults
+  pub write_cause : why ≡ status.WriteFault → HasRisen out0.faults out.faults
+  -- Standard error gets the line of the status.
+  pub told : Tells err0.bytes err.bytes err0.faults err.faults (status_line why)

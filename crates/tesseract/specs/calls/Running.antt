@@ -1,11 +1,17 @@
 -- What a run has read and written so far, and what it has when its job ends.
-use Rattle.std.specs.Prelude.{◌≡◌, ℕ, suc, ◌⊎◌, List, [], ◌∷◌, ◌++◌, IsTrue, false, Option, None}
+use Rattle.std.specs.Prelude.{◌≡◌, ℕ, suc, ◌⊎◌, List, [], ◌∷◌, ◌++◌, IsTrue, false, Option, None, Some}
 use Rattle.job_io.specs.calls.Ends.{BothKnown, PassesOn}
 use Rattle.job_io.specs.meaning.Lines.{Line, Reading, lines_of, whole_lines_of, GivesEnd, StopsInLine}
 use Rattle.tesseract.specs.declared.status.Status.{Status}
 use Rattle.tesseract.specs.declared.status.Status.TheVariants as status
-use Rattle.tesseract.specs.meaning.Job.{Stage, refused, judgement, verdict_at_end, verdict, job_text, job_end}
-use Rattle.tesseract.specs.calls.Progress.{HasReached}
+use Rattle.tesseract.specs.declared.limits.Limits.{Limits}
+use Rattle.graph_types.specs.meaning.Piece.{PieceValue, members_of_all}
+use Rattle.mining_model.specs.meaning.Embeddings.{Pattern, embeddings}
+use Rattle.job.specs.declared.fault.JobRefusal.{JobRefusal}
+use Rattle.job.specs.meaning.Judging.{Stage, pattern_at, graph_at_stage, refused, judgement, close_at, verdict}
+use Rattle.tesseract.specs.meaning.Output.{output}
+use Rattle.tesseract.specs.meaning.Status.{status_of_end, status_of_refusal}
+use Rattle.tesseract.specs.calls.Progress.{all_mined, HasReached}
 use Rattle.tesseract.specs.calls.Run.{IsJob, IsPrefixOfJob}
 
 -- The lines so far are all that LFs ended in the bytes given: whatever follows them adds its own.
@@ -23,33 +29,41 @@ pub record IsAfterLast (is : List ℕ) (reader : Reading) : Type 0 where
 
 -- Of the input `bytes` the lines so far were read, and `is` is left in the source; `text` belongs
 -- to these lines, and t is their last timestamp.
-pub record AtLine (most : ℕ) (bytes is text : List ℕ) (reader : Reading) (stage : Stage) (t : ℕ) :
+pub record AtLine (limits : Limits) (bytes is text : List ℕ) (reader : Reading) (stage : Stage) (t : ℕ) :
     Type 0 where
   pub gone : List Line
   pub lines : lines_of bytes ≡ gone ++ lines_of (reader.held ++ is)
-  pub reached : HasReached most gone text reader.number t stage
+  pub reached : HasReached limits gone text (all_mined reader.number stage t)
   pub whole : WholeSoFar bytes is gone reader ⊎ IsAfterLast is reader
 
+-- These pieces are the embeddings of the graph at a stage. Before it is known what is mined for there are none.
+pub record StandsAt (stage : Stage) (standing : List PieceValue) : Type 0 where
+  pub known : (pattern : Pattern) → pattern_at stage ≡ Some pattern →
+      members_of_all standing ≡ embeddings pattern (graph_at_stage stage)
+  pub unknown : pattern_at stage ≡ None → standing ≡ []
+
 -- What a run has come to between two lines, since its source had left0 and its sink had written0.
-pub record IsRunning (most : ℕ) (left0 left written0 written : Option (List ℕ)) (page : List ℕ)
+pub record IsRunning (limits : Limits) (left0 left written0 written : Option (List ℕ)) (page : List ℕ)
     (reader : Reading) (stage : Stage) (t : ℕ) : Type 0 where
   pub text : List ℕ
   pub passed : PassesOn written0 [] written page text
-  pub known : BothKnown left0 left (λ bytes is. AtLine most bytes is text reader stage t)
+  pub known : BothKnown left0 left (λ bytes is. AtLine limits bytes is text reader stage t)
 
 -- The job ends where no line follows.
 pub record EndsClean (old new : Reading) (was is : List ℕ) (stage : Stage) (why : Status) :
     Type 0 where
   pub gives_end : GivesEnd old new was is
-  pub why_is : why ≡ job_end (verdict_at_end old.number stage None)
+  pub why_is : why ≡ status_of_end (close_at old.number stage)
 
 -- The job ends at the next line, which is refused.
 pub record EndsRefused (most : ℕ) (to_come : List ℕ) (n : ℕ) (stage : Stage) (why : Status) :
     Type 0 where
   pub line : Line
   pub others : List Line
+  pub refusal : JobRefusal
   pub follows : lines_of to_come ≡ line ∷ others
-  pub refused_is : judgement most (suc n) stage line.bytes ≡ refused why
+  pub refused_is : judgement most (suc n) stage line.bytes ≡ refused refusal
+  pub why_is : why ≡ status_of_refusal refusal
 
 -- The job ends because the source failed.
 pub record EndsUnread (old new : Reading) (was is : List ℕ) (why : Status) : Type 0 where
@@ -77,15 +91,15 @@ IfUnread status.NoMemory unread read = Unit {0}
 IfUnread why unread read = read
 
 -- `text` is a prefix of the input's text.
-abbrev pub IsPrefixOfText : ℕ → List ℕ → List ℕ → Type 0
-IsPrefixOfText most bytes text =
-    (more : List ℕ) × (job_text (verdict most (lines_of bytes)) ≡ text ++ more)
+abbrev pub IsPrefixOfText : Limits → List ℕ → List ℕ → Type 0
+IsPrefixOfText limits bytes text =
+    (more : List ℕ) × ((output limits (verdict limits.lines (lines_of bytes))).text ≡ text ++ more)
 
 -- What a run has when it ends: its text, passed on but for what the page holds.
-pub record HasEnded (most : ℕ) (left0 left written0 written : Option (List ℕ)) (page : List ℕ)
+pub record HasEnded (limits : Limits) (left0 left written0 written : Option (List ℕ)) (page : List ℕ)
     (why : Status) : Type 0 where
   pub text : List ℕ
   pub passed : PassesOn written0 [] written page text
-  pub front : BothKnown left0 left (λ bytes is. IsPrefixOfText most bytes text)
+  pub front : BothKnown left0 left (λ bytes is. IsPrefixOfText limits bytes text)
   pub job : BothKnown left0 left (λ bytes is.
-      IfUnread why (IsPrefixOfJob most bytes is text) (IsJob most bytes text why))
+      IfUnread why (IsPrefixOfJob limits bytes is text) (IsJob limits bytes text why))

@@ -1,15 +1,61 @@
 -- What is said of how a run ended.
-use Rattle.std.specs.Prelude.{ℕ, List, [], ◌++◌, codes, decimal}
+use Rattle.std.specs.Prelude.{ℕ, List, [], ◌++◌, codes, decimal, Option, None, Some}
+use Rattle.command_words.specs.declared.command.WordsFault.{WordsFault}
+use Rattle.command_words.specs.declared.command.WordsFault.TheVariants as words
+use Rattle.graph_types.specs.declared.refusal.Refusal.{Refusal}
+use Rattle.graph_types.specs.declared.refusal.Refusal.TheVariants as why
+use Rattle.job.specs.declared.fault.JobFault.{JobFault}
+use Rattle.job.specs.declared.fault.JobFault.TheVariants as fault
+use Rattle.job.specs.declared.fault.JobRefusal.{JobRefusal}
+use Rattle.job.specs.declared.fault.JobRefusal.TheVariants as refused
+use Rattle.program_grammar.specs.declared.fault.ProgramKind.{ProgramKind}
+use Rattle.program_grammar.specs.declared.fault.ProgramKind.TheVariants as program
 use Rattle.program_grammar.specs.declared.header.Word.{Word}
 use Rattle.program_grammar.specs.declared.header.Word.TheVariants as word
+use Rattle.snapshot_fold.specs.declared.fault.FoldRefusal.{FoldRefusal}
+use Rattle.snapshot_fold.specs.declared.fault.FoldRefusal.TheVariants as contradiction
+use Rattle.snapshot_fold.specs.declared.folding.FoldStop.{FoldStop}
+use Rattle.snapshot_fold.specs.declared.folding.FoldStop.TheVariants as fold
 use Rattle.tesseract.specs.declared.status.Status.{Status}
 use Rattle.tesseract.specs.declared.status.Status.TheVariants as status
-use Rattle.tesseract.specs.declared.status.ProgramKind.{ProgramKind}
-use Rattle.tesseract.specs.declared.status.ProgramKind.TheVariants as program
 use Rattle.tesseract.specs.declared.status.InputKind.{InputKind}
 use Rattle.tesseract.specs.declared.status.InputKind.TheVariants as input
 use Rattle.tesseract.specs.declared.status.LimitKind.{LimitKind}
 use Rattle.tesseract.specs.declared.status.LimitKind.TheVariants as limit
+
+-- how words that could not be read are told
+abbrev pub status_of_words : WordsFault → Status
+status_of_words words.Usage = status.Usage
+status_of_words words.NoMemory = status.NoMemory
+
+-- how a job that is refused so is told
+abbrev pub status_of_refusal : JobRefusal → Status
+status_of_refusal (refused.Program line kind) = status.BadProgram line kind
+status_of_refusal (refused.BadLine line) = status.BadInput line input.BadLine
+status_of_refusal (refused.Update line refusal) = status.BadInput line (input.Update refusal)
+status_of_refusal (refused.Labels at) = status.Limit limit.Labels at
+status_of_refusal (refused.LineBytes at) = status.Limit limit.LineBytes at
+status_of_refusal (refused.Lines at) = status.Limit limit.Lines at
+
+-- the same, where a job may have ended well
+abbrev pub status_of_end : Option JobRefusal → Status
+status_of_end None = status.Ok
+status_of_end (Some refusal) = status_of_refusal refusal
+
+-- how a line that leads no further is told
+abbrev pub status_of_fault : JobFault → Status
+status_of_fault (fault.Refused refusal) = status_of_refusal refusal
+status_of_fault fault.NoMemory = status.NoMemory
+
+-- how a stop of a fold is told
+abbrev pub status_of_fold : FoldStop → Status
+status_of_fold fold.NoMemory = status.NoMemory
+status_of_fold fold.ReadFault = status.ReadFault
+status_of_fold (fold.BadLine line) = status.BadInput line input.BadLine
+status_of_fold (fold.Refused line refusal) = status.BadInput line (input.Record refusal)
+status_of_fold (fold.NotDone line) = status.BadInput line input.NotDone
+status_of_fold (fold.TooLong at) = status.Limit limit.LineBytes at
+status_of_fold (fold.TooMany at) = status.Limit limit.Lines at
 
 -- the exit status
 abbrev pub exit_number : Status → ℕ
@@ -39,23 +85,30 @@ program_kind program.TooDeep = codes "TooDeep"
 program_kind program.TooLong = codes "TooLong"
 program_kind program.NotFalling = codes "NotFalling"
 
+abbrev pub refusal_text : Refusal → List ℕ
+refusal_text why.Loop = codes "Loop"
+refusal_text (why.NoVertex v) = codes "NoVertex " ++ decimal v
+refusal_text why.VertexExists = codes "VertexExists"
+refusal_text why.EdgeExists = codes "EdgeExists"
+refusal_text why.NoEdge = codes "NoEdge"
+
+abbrev pub fold_refusal_text : FoldRefusal → List ℕ
+fold_refusal_text contradiction.MixedModes = codes "MixedModes"
+fold_refusal_text contradiction.OutOfOrder = codes "OutOfOrder"
+fold_refusal_text contradiction.AddsPresent = codes "AddsPresent"
+fold_refusal_text contradiction.RemovesAbsent = codes "RemovesAbsent"
+
 abbrev pub input_kind : InputKind → List ℕ
 input_kind input.BadLine = codes "BadLine"
-input_kind input.Loop = codes "Loop"
-input_kind (input.NoVertex v) = codes "NoVertex " ++ decimal v
-input_kind input.VertexExists = codes "VertexExists"
-input_kind input.EdgeExists = codes "EdgeExists"
-input_kind input.NoEdge = codes "NoEdge"
-input_kind input.MixedModes = codes "MixedModes"
-input_kind input.OutOfOrder = codes "OutOfOrder"
-input_kind input.AddsPresent = codes "AddsPresent"
-input_kind input.RemovesAbsent = codes "RemovesAbsent"
+input_kind (input.Update refusal) = refusal_text refusal
+input_kind (input.Record refusal) = fold_refusal_text refusal
 input_kind input.NotDone = codes "NotDone"
 
 abbrev pub limit_kind : LimitKind → List ℕ
 limit_kind limit.Lines = codes "Lines"
 limit_kind limit.Labels = codes "Labels"
 limit_kind limit.LineBytes = codes "LineBytes"
+limit_kind limit.Records = codes "Records"
 
 -- the line on standard error; there is none where a run ended well
 abbrev pub status_line : Status → List ℕ

@@ -10,7 +10,7 @@ take-requires c =
     let i = c.loop-i.i in
     let text = c.as_slice.result.now in
     let rest_is = at_line lines c.as_slice-line-items.result.now i c.line-item.result text c.as_slice-line-items.ensures c.line-item.is c.loop-i-test.true c.as_slice.ensures in
-    room-here c.loop-i.header (i + 1) (drop i lines) (drop (i + 1) lines) text c.loop-i.names rest_is c.loop-i.invariant.room
+    room-here c.loop-i.header i (drop i lines) (drop (i + 1) lines) text c.loop-i.names rest_is c.loop-i.invariant.room
 
 pub loop-i-preserved : goal.loop-i-preserved
 loop-i-preserved c =
@@ -22,9 +22,9 @@ loop-i-preserved c =
     let h = c.loop-i.header in
     let names = c.loop-i.names in
     record {
-      same = c.loop-i.invariant.same ∙ said-next h (i + 1) (drop i lines) (drop (i + 1) lines) text names rest_is c.in-More.next c.take.new.names answers.0;
-      room = room-next h (i + 1) (drop i lines) (drop (i + 1) lines) text names rest_is c.in-More.next c.take.new.names answers.0 answers.1 c.loop-i.invariant.room;
-      starved = λ new starves. c.loop-i.invariant.starved new (starves-later h (i + 1) (drop i lines) (drop (i + 1) lines) text names rest_is c.in-More.next c.take.new.names answers.0 new starves);
+      same = c.loop-i.invariant.same ∙ said-next h i (drop i lines) (drop (i + 1) lines) text names rest_is c.in-More.next c.take.new.names answers.0;
+      room = room-next h i (drop i lines) (drop (i + 1) lines) text names rest_is c.in-More.next c.take.new.names answers.0 answers.1 c.loop-i.invariant.room;
+      starved = λ new starves. c.loop-i.invariant.starved new (starves-later h i (drop i lines) (drop (i + 1) lines) text names rest_is c.in-More.next c.take.new.names answers.0 new starves);
     }
 
 pub returns-in_err-next-clause-reads : goal.returns-in_err-next-clause-reads
@@ -34,7 +34,7 @@ returns-in_err-next-clause-reads c =
     let text = c.as_slice.result.now in
     let rest_is = at_line lines c.as_slice-line-items.result.now i c.line-item.result text c.as_slice-line-items.ensures c.line-item.is c.loop-i-test.true c.as_slice.ensures in
     let p = err_from_is_err_and c.from_residual.result c.from_residual.ensures.1 in
-    said-fault c.loop-i.header (i + 1) (drop i lines) (drop (i + 1) lines) text c.loop-i.names rest_is lines c.args.names.now c.take.new.names c.loop-i.invariant.same c.loop-i.invariant.starved
+    said-fault c.loop-i.header i (drop i lines) (drop (i + 1) lines) text c.loop-i.names rest_is lines c.args.names.now c.take.new.names c.loop-i.invariant.same c.loop-i.invariant.starved
     c.from_residual.result c.in_err-next.field-0.0 (p.1 ∙ ap Err p.2) c.in_err-next.ensures
 
 pub returns-in-Ready-clause-known : goal.returns-in-Ready-clause-known
@@ -47,4 +47,4 @@ returns-in-Ready-clause-known c =
     let rest_is = at_line lines c.as_slice-line-items.result.now i c.line-item.result text c.as_slice-line-items.ensures c.line-item.is c.loop-i-test.true c.as_slice.ensures in
     let answers = rw c.in-Ready.is at c.in_ok-next.ensures in
     program-known lines c.args.names.now names p
-    (c.loop-i.invariant.same ∙ said-ready c.loop-i.header (i + 1) (drop i lines) (drop (i + 1) lines) text c.loop-i.names rest_is p names answers.0)
+    (c.loop-i.invariant.same ∙ said-ready c.loop-i.header i (drop i lines) (drop (i + 1) lines) text c.loop-i.names rest_is p names answers.0)

@@ -1,4 +1,4 @@
-use Rattle.tesseract.specs.calls.Reading.{stage_of}
+use Rattle.job.specs.calls.Taking.{stage_of}
 use Rattle.tesseract.proofs.Turning.{Nexts-long, Nexts-many}
 use Rattle.tesseract.proofs.mine.advance.Goals as goal
 

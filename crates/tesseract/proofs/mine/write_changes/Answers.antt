@@ -3,9 +3,7 @@ use Rattle.tesseract.proofs.mine.write_changes.Goals as goal
 
 pub returns-in_err-write_delta-clause-text : goal.returns-in_err-write_delta-clause-text
 returns-in_err-write_delta-clause-text g c =
-    rw c.in-Some.is (Gathers-err _ c.from_residual.ensures.0
-    (Gathers-more _ c.in_err-write_delta.ensures.text))
+    Gathers-err _ c.from_residual.ensures.0 (Gathers-more _ c.in_err-write_delta.ensures.text)
 
 pub returns-clause-text : goal.returns-clause-text
-returns-clause-text g c =
-    rw c.in-Some.is (Gathers-then c.in_ok-write_delta.ensures.text c.write_done.ensures.text)
+returns-clause-text g c = Gathers-then c.in_ok-write_delta.ensures.text c.write_done.ensures.text

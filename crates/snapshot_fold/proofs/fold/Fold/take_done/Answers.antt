@@ -1,6 +1,6 @@
 use Rattle.std.proofs.Common.{sym, ap, ◌∙◌, if◌then◌else◌}
 use Rattle.std.specs.Prelude.{Ok, Err}
-use Rattle.snapshot_fold.specs.declared.fault.FoldFault.TheVariants.{OutOfOrder}
+use Rattle.snapshot_fold.specs.declared.fault.FoldRefusal.TheVariants.{OutOfOrder}
 use Rattle.snapshot_fold.specs.meaning.Taking.{after_done}
 use Rattle.snapshot_fold.proofs.Steps.{IsOpen-done, seen, after_done_is}
 use Rattle.snapshot_fold.proofs.fold.Fold.take_done.Goals as goal

@@ -1,0 +1,3 @@
+pub mod Bounds
+pub mod Following
+pub mod Limits

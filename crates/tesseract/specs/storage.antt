@@ -1,3 +1,0 @@
--- How it is stored.
-pub mod Mining
-pub mod HeaderSoFar
