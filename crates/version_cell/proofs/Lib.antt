@@ -1,0 +1,11 @@
+pub mod Labels
+pub mod Folding
+pub mod PlaceLabels
+pub mod KeptTracks
+pub mod Around
+pub mod FoldedPlaces
+pub mod Forgetting
+pub mod FoldedCell
+pub mod Folds
+pub mod Reserving
+pub mod AboveFloor

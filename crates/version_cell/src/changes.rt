@@ -1,0 +1,137 @@
+ghost use Rattle.std.specs.Prelude.{◌≡◌, ◌-◌, ◌<◌, ◌≤◌, [], OnOk};
+ghost use Rattle.version_cell.specs.meaning.Changes.{changes_after, label_after, with_change};
+ghost use Rattle.version_cell.specs.storage.Due.{begins_by};
+ghost use Rattle.version_cell.specs.storage.Tracks.{is_changed};
+
+use crate::Change;
+use graph_types::{LabelId, NoMemory, Stamp};
+use std::alloc::Global;
+use std::collections::VecDeque;
+use std::marker::Model;
+
+/// The changes of a label above a floor, in the order of their timestamps.
+#[derive(Drop)]
+pub(crate) struct Changes {
+    items: VecDeque<Change>,
+}
+
+impl Model for Changes {
+    ghost use Rattle.std.specs.Prelude.{◌-◌};
+    ghost use Rattle.std.specs.VecDeque.{deque_capacity, deque_len};
+    ghost use Rattle.version_cell.specs.meaning.Changes.{Track};
+
+    ghost Value = { Track };
+
+    ghost view = { λ c. record { changes = c.items.items; room = deque_capacity c.items - deque_len c.items } };
+}
+
+impl Changes {
+    /// No changes, and no room yet.
+    pub fn new(alloc: Global) -> Changes
+        ensures { result.changes ≡ [] }
+    {
+        Changes {
+            items: VecDeque::new(alloc),
+        }
+    }
+
+    /// Makes room for one more change, where there is none.
+    pub fn reserve(&mut self) -> Result<(), NoMemory>
+        ensures same { self.new.changes ≡ self.old.changes }
+        ensures kept { self.old.room ≤ self.new.room }
+        ensures ok { OnOk result (0 < self.new.room) }
+    {
+        self.items.reserve(1)?;
+        Ok(())
+    }
+
+    /// Notes a change after all others. It takes no memory.
+    pub fn push(&mut self, change: Change)
+        requires { 0 < self.old.room }
+        ensures { self.new ≡ with_change self.old change }
+    {
+        // Written out, since passed on as it is it gets no generated proof.
+        let Change { at, label } = change;
+        self.items.push_back_reserved(Change { at, label });
+    }
+
+    /// The label after a timestamp, from that at the floor. Takes time linear in the number of changes up to
+    /// then.
+    pub fn label_after(&self, at_floor: Option<LabelId>, t: Stamp) -> Option<LabelId>
+        ensures { result ≡ label_after at_floor self.now.changes t }
+    {
+        let mut label = at_floor;
+        for change in self.items.iter() {
+            if t < change.at {
+                return label;
+            }
+            label = change.label;
+        }
+        label
+    }
+
+    /// Takes out the changes up to a timestamp, and answers the label then, from that at the floor. Takes
+    /// time linear in the number of these changes, and no memory.
+    pub fn fold_to(&mut self, at_floor: Option<LabelId>, t: Stamp) -> Option<LabelId>
+        ensures label { result ≡ label_after at_floor self.old.changes t }
+        ensures rest { self.new.changes ≡ changes_after self.old.changes t }
+        ensures kept { self.old.room ≤ self.new.room }
+    {
+        let mut label = at_floor;
+        while is_due(&self.items, t) {
+            if let Some(change) = self.items.pop_front() {
+                label = change.label;
+            }
+        }
+        label
+    }
+
+    /// Takes out the changes up to a timestamp, and answers whether any are left. Takes time linear in the
+    /// number of those taken out, and no memory.
+    pub fn forget_to(&mut self, t: Stamp) -> bool
+        ensures rest { self.new.changes ≡ changes_after self.old.changes t }
+        ensures left { result ≡ is_changed self.new.changes }
+    {
+        self.fold_to(None, t);
+        self.has_some()
+    }
+
+    fn has_some(&self) -> bool
+        ensures { result ≡ is_changed self.now.changes }
+    {
+        match self.items.front() {
+            Some(_) => true,
+            None => false,
+        }
+    }
+
+    /// Whether a change comes after a timestamp. Takes time linear in the number of changes up to then.
+    pub fn goes_past(&self, t: Stamp) -> bool
+        ensures { result ≡ is_changed (changes_after self.now.changes t) }
+    {
+        for change in self.items.iter() {
+            if t < change.at {
+                return true;
+            }
+        }
+        false
+    }
+}
+
+/// The timestamp before.
+pub(crate) fn previous(t: Stamp) -> Stamp
+    requires { 0 < t }
+    ensures { result ≡ t - 1 }
+{
+    Stamp(t.0 - 1)
+}
+
+/// Whether the first change comes up to a timestamp.
+fn is_due(changes: &VecDeque<Change>, t: Stamp) -> bool
+    ensures { result ≡ begins_by t changes.now.items }
+{
+    match changes.front() {
+        Some(change) => change.at <= t,
+        None => false,
+    }
+}
