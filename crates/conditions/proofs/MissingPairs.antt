@@ -18,9 +18,9 @@ use Rattle.graph_types.proofs.Graph.{pair_cmp-IsAntisymmetric}
 use Rattle.mining_model.proofs.VertexPictures.{IsIn-vertices_of}
 use Rattle.conditions.specs.declared.condition.Term.TheVariants.{Missing}
 use Rattle.conditions.specs.meaning.Counts.{term_count, is_apart, item_pairs}
-use Rattle.shared_lemmas.specs.meaning.Membership.{IsIn}
+use Rattle.shared_lemmas.specs.meaning.Membership.{IsDistinct, IsIn}
 use Rattle.shared_lemmas.proofs.FiniteMaps.{keys_rise}
-use Rattle.shared_lemmas.proofs.Membership.{IsDistinct, IsIn-append_cases, IsIn-append_left, IsIn-append_right, IsIn-filter, IsIn-from_filter, IsIn-from_map, IsIn-map, all-at, distinct_append, distinct_by, distinct_filter, distinct_from_sorted, list_any_at, list_any_place}
+use Rattle.shared_lemmas.proofs.Membership.{IsIn-append_cases, IsIn-append_left, IsIn-append_right, IsIn-filter, IsIn-from_filter, IsIn-from_map, IsIn-map, all-at, distinct_append, distinct_by, distinct_filter, distinct_from_sorted, list_any_at, list_any_place}
 use Rattle.shared_lemmas.proofs.Orderings.{same_item}
 
 -- how many pairs there are
