@@ -3,6 +3,7 @@ pub mod Places
 pub mod Chaining
 pub mod Whole
 pub mod Productions
+pub mod OfLines
 pub mod Limits
 pub mod Lines
 pub mod WholePrograms

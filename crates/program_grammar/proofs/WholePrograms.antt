@@ -110,4 +110,4 @@ module _ (h : HeaderReader) (n : ℕ) (rest later : List (List ℕ)) (line : Lis
 
     pub said-fault : (r : Result ProgramValue ProgramFault) (e : ProgramFault) → r ≡ Err e → AnswersLine {A = HeaderStep} (n + 1) names (header_said h line names) (Err e) after → ReadsProgram all old r after
     said-fault r fault.NoMemory is answers = subst (λ x. ReadsProgram all old x after) (sym is) (starved after (starves-here after answers))
-    said-fault r (fault.Refused number kind) is (here, read, unchanged) = subst (λ x. ReadsProgram all old x after) (sym is) (refused number kind here read unchanged)
+    said-fault r (fault.Refused number kind) is (here, read, of_line, unchanged) = subst (λ x. ReadsProgram all old x after) (sym is) (refused number kind here read unchanged)

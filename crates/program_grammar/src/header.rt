@@ -110,6 +110,7 @@ impl HeaderReader {
     /// the size is out of range; there are too many tokens; the first token that offends makes the
     /// condition too deep, or is one after which no condition can be completed (`BadLine`), as the end of
     /// one that ends early; the filter is not falling. It is never `Missing`.
+    #[tactic(auto, using(crate::proofs::OfLines::refused_of_line))]
     pub fn take(
         self,
         alloc: Global,

@@ -7,6 +7,7 @@ use Rattle.program_grammar.specs.declared.fault.ProgramFault.TheVariants as faul
 use Rattle.program_grammar.specs.declared.fault.ReadError.{ReadError}
 use Rattle.program_grammar.specs.declared.fault.ReadError.TheVariants as error
 use Rattle.program_grammar.specs.declared.fault.ProgramKind.{ProgramKind}
+use Rattle.program_grammar.specs.declared.fault.ProgramKind.TheVariants.{Missing}
 use Rattle.program_grammar.specs.calls.Reading.{AddsFirst, AddsNames}
 
 -- There is room for the labels of a condition, whatever they are; or there is for those that it brings.
@@ -34,8 +35,13 @@ AnswersReading old said (Ok x) new = (said ≡ Ok (x, new)) × AddsNames most_to
 AnswersReading old said (Err error.NoMemory) new = RunsOut old said new
 AnswersReading old said (Err (error.Refused f)) new = (said ≡ Err f) × (new ≡ old)
 
+-- it can be told of a line: that one is missing is told of none
+abbrev pub IsOfLine : ProgramKind → Type 0
+IsOfLine (Missing word) = ⊥
+IsOfLine kind = Unit {0}
+
 -- the same of line n, by which a refusal is told
 abbrev pub AnswersLine : {A : Type 0} → ℕ → Names → Result (A × Names) ProgramKind → Result A ProgramFault → Names → Type 0
 AnswersLine n old said (Ok x) new = (said ≡ Ok (x, new)) × AddsNames most_tokens old new
 AnswersLine n old said (Err fault.NoMemory) new = RunsOut old said new
-AnswersLine n old said (Err (fault.Refused line kind)) new = (line ≡ n) × (said ≡ Err kind) × (new ≡ old)
+AnswersLine n old said (Err (fault.Refused line kind)) new = (line ≡ n) × (said ≡ Err kind) × IsOfLine kind × (new ≡ old)
