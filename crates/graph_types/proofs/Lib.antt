@@ -1,6 +1,7 @@
 pub mod Ahead
 pub mod EdgesInOrder
 pub mod FewPairs
+pub mod Finding
 pub mod Graph
 pub mod Listing
 pub mod Lists

@@ -38,7 +38,7 @@ once_or_twice None false = refl
 once_or_twice (Some x) again = refl
 
 -- of those that a look-up knows, one that is listed has what it tells
-find-known : (look : ℕ → Option ℕ) (w : ℕ) (vs : List ℕ) →
+pub find-known : (look : ℕ → Option ℕ) (w : ℕ) (vs : List ℕ) →
     map.find nat_cmp w (filter_map (λ v. option_map (λ label. (v, label)) (look v)) vs) ≡ cond (list_any (eq_by_cmp nat_cmp w) vs) (look w) None
 find-known look w [] = refl
 find-known look w (v ∷ vs) =

@@ -8,12 +8,12 @@ use Rattle.std.specs.Ordering.{nat_cmp, eq_by_cmp, is_eq}
 use Rattle.std.proofs.lemmas.Bool.{eqb-true, false≢true}
 use Rattle.graph_types.specs.declared.near.Near.{Near}
 use Rattle.graph_types.specs.meaning.Neighbourhood.{Neighbourhood, either_near, near_at, near_of}
-use Rattle.graph_types.specs.storage.Ahead.{ends_of}
+use Rattle.graph_types.specs.storage.Ahead.{near_ends}
 use Rattle.graph_types.specs.storage.Found.{is_near}
 use Rattle.graph_types.proofs.Listing.{same_list}
 use Rattle.graph_types.proofs.Merging.{Lists-either, is_either}
 use Rattle.graph_types.proofs.Rows.{nat-test}
-use Rattle.graph_types.proofs.Skipping.{ends_of-near_of}
+use Rattle.graph_types.proofs.Skipping.{near_ends-near_of}
 use Rattle.shared_lemmas.proofs.Claims.{all-found, all-weaker}
 
 both_ways : (a b : Bool) → (a ≡ true → b ≡ true) → (b ≡ true → a ≡ true) → a ≡ b
@@ -46,36 +46,36 @@ module _ (before after : map.FinMap nat_cmp ℕ) where
       (all-found (eq_by_cmp nat_cmp) (λ w. ap is_eq (tied_itself nat_cmp_total w)) ws))
 
   -- each vertex that is near before or after has an entry
-  pub listed-near_of : (w : ℕ) → list_any (eqb w) (ends_of (near_of before after)) ≡ is_either before after w
+  pub listed-near_of : (w : ℕ) → list_any (eqb w) (near_ends (near_of before after)) ≡ is_either before after w
   listed-near_of w =
-      ap (list_any (eqb w)) (ends_of-near_of before after)
+      ap (list_any (eqb w)) (near_ends-near_of before after)
       ∙ (λ i. list_any (λ v. sym (nat-test w v) i) (either_near before after))
       ∙ (Lists-either before after).members w
 
-  entries-alike : (near : List Near) → AllByRecursion (IsEntry before after) near → near ≡ mapped (near_at before after) (ends_of near)
+  entries-alike : (near : List Near) → AllByRecursion (IsEntry before after) near → near ≡ mapped (near_at before after) (near_ends near)
   entries-alike [] entries = refl
   entries-alike (n ∷ near) entries = λ i. entries.0.labels i ∷ entries-alike near entries.1 i
 
-  joined-at : (w : ℕ) (near : List Near) → AllByRecursion (IsEntry before after) near → list_any (eqb w) (ends_of near) ≡ true → is_either before after w ≡ true
+  joined-at : (w : ℕ) (near : List Near) → AllByRecursion (IsEntry before after) near → list_any (eqb w) (near_ends near) ≡ true → is_either before after w ≡ true
   joined-at w [] entries found = absurd (false≢true found)
   joined-at w (n ∷ near) entries found =
-      elim (eqb w n.to) as (λ b. eqb w n.to ≡ b → (b || list_any (eqb w) (ends_of near)) ≡ true → is_either before after w ≡ true) [
+      elim (eqb w n.to) as (λ b. eqb w n.to ≡ b → (b || list_any (eqb w) (near_ends near)) ≡ true → is_either before after w ≡ true) [
         | true ↦ λ same _.
             ap (is_either before after) (eqb-true w n.to same) ∙ ap is_near (sym entries.0.labels) ∙ entries.0.joined
         | false ↦ λ _ later. joined-at w near entries.1 later
       ] refl found
 
   -- entries that ascend, one for each vertex that is near before or after, are the neighbours
-  pub near_of-only : (near : List Near) → IsStrictlySortedBy nat_cmp (ends_of near) → AllByRecursion (IsEntry before after) near →
-      ((w : ℕ) → IsTrue (is_either before after w) → list_any (eqb w) (ends_of near) ≡ true) → near ≡ near_of before after
+  pub near_of-only : (near : List Near) → IsStrictlySortedBy nat_cmp (near_ends near) → AllByRecursion (IsEntry before after) near →
+      ((w : ℕ) → IsTrue (is_either before after w) → list_any (eqb w) (near_ends near) ≡ true) → near ≡ near_of before after
   near_of-only near ascending entries complete =
       entries-alike near entries
       ∙ ap (mapped (near_at before after))
-      (same_list nat_cmp_total map.nat_cmp-IsAntisymmetric (is_either before after) (ends_of near) (either_near before after)
+      (same_list nat_cmp_total map.nat_cmp-IsAntisymmetric (is_either before after) (near_ends near) (either_near before after)
       (record {
         ascending = ascending;
         members = λ w.
-            (λ i. list_any (λ v. nat-test w v i) (ends_of near))
+            (λ i. list_any (λ v. nat-test w v i) (near_ends near))
             ∙ both_ways _ _ (joined-at w near entries) (complete w);
       })
       (Lists-either before after))

@@ -13,7 +13,7 @@ use Rattle.std.proofs.lemmas.List.Sums.{prefix_len-le-length}
 use Rattle.std.proofs.lemmas.Map.Keys.{sorted_head, sorted_tail}
 use Rattle.graph_types.specs.declared.near.Near.{Near}
 use Rattle.graph_types.specs.meaning.Neighbourhood.{either_near, leads_among, near_at, near_of}
-use Rattle.graph_types.specs.storage.Ahead.{above, ends_of}
+use Rattle.graph_types.specs.storage.Ahead.{above, near_ends}
 use Rattle.graph_types.proofs.Merging.{Lists-either}
 
 none_at : (v : ℕ) (ws : List ℕ) → AllByRecursion (λ w. nat_cmp v w ≡ Less) ws → list_any (eqb v) ws ≡ false
@@ -89,7 +89,7 @@ filter-alike : {A : Type 0} (p q : A → Bool) (xs : List A) → AllByRecursion 
 filter-alike p q [] alike = refl
 filter-alike p q (x ∷ xs) alike = λ i. cond (alike.0 i) (x ∷ filter-alike p q xs alike.1 i) (filter-alike p q xs alike.1 i)
 
-later : (v : ℕ) (ws : List ℕ) (near : List Near) → AllByRecursion (λ u. nat_cmp v u ≡ Less) (ends_of near) → AllByRecursion (λ n. leads_among ws n ≡ leads_among (above v ws) n) near
+later : (v : ℕ) (ws : List ℕ) (near : List Near) → AllByRecursion (λ u. nat_cmp v u ≡ Less) (near_ends near) → AllByRecursion (λ n. leads_among ws n ≡ leads_among (above v ws) n) near
 later v ws [] higher = tt
 later v ws (n ∷ near) higher =
     let less = higher.0 in
@@ -97,7 +97,7 @@ later v ws (n ∷ near) higher =
     (kept_above v n.to ws below, later v ws near higher.1)
 
 -- one neighbour more, of which it is told whether it leads to one of the vertices
-filter-above : (n : Near) (near : List Near) (ws : List ℕ) → IsStrictlySortedBy nat_cmp (n.to ∷ ends_of near) → IsStrictlySortedBy nat_cmp ws →
+filter-above : (n : Near) (near : List Near) (ws : List ℕ) → IsStrictlySortedBy nat_cmp (n.to ∷ near_ends near) → IsStrictlySortedBy nat_cmp ws →
     filter (leads_among ws) (n ∷ near) ≡ cond (starts_with n.to (above n.to ws)) (n ∷ filter (leads_among (above n.to ws)) near) (filter (leads_among (above n.to ws)) near)
 filter-above n near ws ascending sorted =
     let rest = filter-alike _ _ near (later n.to ws near (sorted_head nat_cmp _ _ ascending)) in
@@ -119,14 +119,14 @@ nothing-first (w ∷ ws) at = absurd (false≢true (ap is_some at))
 -- what is listed, and what of `ahead` leads to one of the vertices, is the whole; both ascend
 pub record IsListing (list ahead : List Near) (ws : List ℕ) (whole : List Near) : Type 0 where
   pub same : list ++ filter (leads_among ws) ahead ≡ whole
-  pub ascending : IsStrictlySortedBy nat_cmp (ends_of ahead)
+  pub ascending : IsStrictlySortedBy nat_cmp (near_ends ahead)
   pub sorted : IsStrictlySortedBy nat_cmp ws
 
 -- the next neighbour is taken, and the vertices below it are skipped
 module _ (list ahead : List Near) (ws : List ℕ) (whole : List Near) (listing : IsListing list ahead ws whole)
     (n : Near) (near : List Near) (left : List ℕ) (is : ahead ≡ n ∷ near) (skipped : left ≡ above n.to ws) where
-  ascends : IsStrictlySortedBy nat_cmp (n.to ∷ ends_of near)
-  ascends = subst (λ ns. IsStrictlySortedBy nat_cmp (ends_of ns)) is listing.ascending
+  ascends : IsStrictlySortedBy nat_cmp (n.to ∷ near_ends near)
+  ascends = subst (λ ns. IsStrictlySortedBy nat_cmp (near_ends ns)) is listing.ascending
 
   comes : list ++ cond (starts_with n.to left) (n ∷ filter (leads_among left) near) (filter (leads_among left) near) ≡ whole
   comes =
@@ -162,13 +162,13 @@ module _ (list ahead : List Near) (ws : List ℕ) (whole : List Near) (listing :
       ∙ ap (λ vs. list ++ cond (starts_with n.to vs) (n ∷ filter (leads_among vs) near) (filter (leads_among vs) near)) (sym (nothing-first left none))
       ∙ comes
 
-ends_of-map : (m n : map.FinMap nat_cmp ℕ) (ws : List ℕ) → ends_of (mapped (near_at m n) ws) ≡ ws
-ends_of-map m n [] = refl
-ends_of-map m n (w ∷ ws) = ap (λ vs. w ∷ vs) (ends_of-map m n ws)
+near_ends-map : (m n : map.FinMap nat_cmp ℕ) (ws : List ℕ) → near_ends (mapped (near_at m n) ws) ≡ ws
+near_ends-map m n [] = refl
+near_ends-map m n (w ∷ ws) = ap (λ vs. w ∷ vs) (near_ends-map m n ws)
 
-pub ends_of-near_of : (m n : map.FinMap nat_cmp ℕ) → ends_of (near_of m n) ≡ either_near m n
-ends_of-near_of m n = ends_of-map m n (either_near m n)
+pub near_ends-near_of : (m n : map.FinMap nat_cmp ℕ) → near_ends (near_of m n) ≡ either_near m n
+near_ends-near_of m n = near_ends-map m n (either_near m n)
 
 -- the neighbours in two graphs ascend
-pub near_of-ascends : (m n : map.FinMap nat_cmp ℕ) → IsStrictlySortedBy nat_cmp (ends_of (near_of m n))
-near_of-ascends m n = subst (IsStrictlySortedBy nat_cmp) (sym (ends_of-near_of m n)) (Lists-either m n).ascending
+pub near_of-ascends : (m n : map.FinMap nat_cmp ℕ) → IsStrictlySortedBy nat_cmp (near_ends (near_of m n))
+near_of-ascends m n = subst (IsStrictlySortedBy nat_cmp) (sym (near_ends-near_of m n)) (Lists-either m n).ascending

@@ -3,3 +3,4 @@ pub mod Entry
 pub mod Counts
 pub mod Views
 pub mod TwoGraphs
+pub mod Finding

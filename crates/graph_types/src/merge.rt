@@ -3,7 +3,7 @@ ghost use Rattle.std.specs.Iterator.{YieldsFirst, at_most};
 ghost use Rattle.std.specs.List.Sorted.{IsStrictlySortedBy};
 ghost use Rattle.std.specs.Ordering.{nat_cmp};
 ghost use Rattle.graph_types.specs.meaning.Neighbourhood.{leads_among, near_of};
-ghost use Rattle.graph_types.specs.storage.Ahead.{above, ends_of, lower_of};
+ghost use Rattle.graph_types.specs.storage.Ahead.{above, lower_of, near_ends};
 
 use crate::cursor::Cursor;
 use crate::{Near, NearList, NoMemory, VertexId};
@@ -82,7 +82,7 @@ pub(crate) fn list_among(
     among: &[VertexId],
 ) -> Result<NearList, NoMemory>
     requires given { IsStrictlySortedBy nat_cmp among.now }
-    requires merged { IsStrictlySortedBy nat_cmp (ends_of merge) }
+    requires merged { IsStrictlySortedBy nat_cmp (near_ends merge) }
     ensures { IfOk result (λ near. near ≡ filter (leads_among among.now) merge.entry) }
 {
     let mut list = NearList::new(alloc);

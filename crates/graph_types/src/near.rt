@@ -2,6 +2,10 @@ ghost use Rattle.std.specs.Prelude.{◌≡◌, ◌↔◌, ◌^◌, ◌<◌, ◌|
 ghost use Rattle.std.specs.Iterator.Adapters.{IterYieldsInOrder};
 ghost use Rattle.std.specs.Option.{option_copied};
 ghost use Rattle.std.specs.Slice.Iter.{iter_rest};
+ghost use Rattle.std.specs.List.Sorted.{IsStrictlySortedBy};
+ghost use Rattle.std.specs.Ordering.{nat_cmp};
+ghost use Rattle.graph_types.specs.calls.Finding.{FindsNear};
+ghost use Rattle.graph_types.specs.storage.Ahead.{near_ends};
 
 use crate::{LabelId, NoMemory, VertexId};
 use smallvec::SmallVec;
@@ -87,6 +91,17 @@ impl NearList {
         ensures { option_copied result ≡ slice_get self.now i }
     {
         self.items.as_slice().get(i)
+    }
+
+    /// The neighbour that is this vertex, where the neighbours ascend. It takes logarithmic time.
+    pub fn find(&self, to: VertexId) -> Option<&Near>
+        requires { IsStrictlySortedBy nat_cmp (near_ends self.now) }
+        ensures { FindsNear to self.now (option_copied result) }
+    {
+        match self.as_slice().binary_search_by_key(&to, |near| near.to) {
+            Ok(place) => self.get(place),
+            Err(_) => None,
+        }
     }
 
     /// All neighbours, in order.

@@ -1,5 +1,5 @@
 -- That the edges which a cell lists around a timestamp are those of its pair.
-use Rattle.std.proofs.Common.{◌≡◌, ◌-◌, ℕ, Bool, true, false, ◌||◌, cond, eqb, IsTrue, List, [], ◌∷◌, refl, sym, ap, ◌∙◌, None, Some, map as mapped, filter, Option, arith}
+use Rattle.std.proofs.Common.{◌≡◌, ◌-◌, ℕ, Bool, true, false, ◌||◌, cond, IsTrue, List, [], ◌∷◌, refl, sym, ap, ◌∙◌, None, Some, map as mapped, filter, Option, arith}
 use Rattle.std.specs.Cmp.{nat_cmp_total, tied_itself}
 use Rattle.std.specs.FinMap as map
 use Rattle.std.specs.List.{AllByRecursion, list_any}
@@ -8,7 +8,6 @@ use Rattle.std.specs.Map.{keys_of}
 use Rattle.std.specs.Option.{is_some, option_flatten}
 use Rattle.std.specs.Ordering.{nat_cmp, eq_by_cmp, is_eq}
 use Rattle.std.specs.declared.cmp.Ordering.TheVariants.{Less}
-use Rattle.std.proofs.lemmas.Bool.{false≢true}
 use Rattle.std.proofs.lemmas.Bool.Decides.{nat_tests}
 use Rattle.std.proofs.lemmas.Map.Keys.{sorted_head, sorted_tail}
 use Rattle.graph_types.specs.declared.near.Near.{Near}
@@ -20,7 +19,7 @@ use Rattle.graph_types.proofs.Rows.{nat-test}
 use Rattle.graph_types.proofs.Views.{none_from}
 use Rattle.shared_lemmas.proofs.Claims.{all-weaker}
 use Rattle.shared_lemmas.proofs.FiniteMaps.{keys_rise}
-use Rattle.version_cell.specs.meaning.Cell.{Timeline, changes_of, near_after, neighbourhood_after}
+use Rattle.version_cell.specs.meaning.Cell.{Timeline, changes_of, neighbourhood_after}
 use Rattle.version_cell.specs.meaning.Changes.{Track, label_after}
 use Rattle.version_cell.specs.storage.Around.{edge_around, near_of_vertices, near_of_places}
 use Rattle.version_cell.specs.storage.Places.{HavePlaces, Places, near_at_floor, place_label}

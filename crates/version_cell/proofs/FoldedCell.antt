@@ -2,7 +2,6 @@
 use Rattle.std.proofs.Common.{◌≡◌, ℕ, max, Option, sym, ap, ◌∙◌, IsTrue}
 use Rattle.std.specs.Cmp.{nat_cmp_total}
 use Rattle.std.specs.FinMap as map
-use Rattle.std.specs.Ordering.{nat_cmp}
 use Rattle.version_cell.specs.calls.Changing.{IsFolded}
 use Rattle.version_cell.specs.meaning.Cell.{Timeline, changes_of, neighbourhood_after}
 use Rattle.version_cell.specs.meaning.Changes.{Track, changes_after, label_after}

@@ -1,8 +1,6 @@
 -- That a fold keeps what stands from its floor on.
-use Rattle.std.proofs.Common.{◌≡◌, ◌-◌, ◌<◌, ◌≤◌, ℕ, max, refl, sym, ap, ◌∙◌, arith}
-use Rattle.std.specs.Cmp.{nat_cmp_total}
+use Rattle.std.proofs.Common.{◌≡◌, ◌-◌, ◌<◌, ◌≤◌, ℕ, max, sym, ap, ◌∙◌, arith}
 use Rattle.std.specs.FinMap as map
-use Rattle.std.specs.Ordering.{nat_cmp}
 use Rattle.graph_types.specs.meaning.Neighbourhood.{pair_of}
 use Rattle.graph_types.proofs.Pairs.{same_neighbourhood}
 use Rattle.version_cell.specs.calls.Changing.{IsFolded}

@@ -1,5 +1,5 @@
 -- Lists of changes that are kept.
-use Rattle.std.proofs.Common.{◌≡◌, ◌≤◌, ℕ, Bool, true, false, ◌||◌, cond, eqb, List, None, Some, refl, sym, ap, subst, ◌∙◌, IsTrue, arith}
+use Rattle.std.proofs.Common.{◌≡◌, ◌≤◌, ℕ, Bool, true, false, ◌||◌, cond, eqb, List, Some, refl, sym, ap, subst, ◌∙◌, IsTrue, arith}
 use Rattle.std.specs.FinMap as map
 use Rattle.std.specs.Option.{is_some}
 use Rattle.std.specs.BTreeMap.{is_at}

@@ -1,7 +1,5 @@
 -- That a reservation keeps the versions.
-use Rattle.std.proofs.Common.{◌≡◌, ℕ, Option, refl, sym, subst, arith}
-use Rattle.std.specs.FinMap as map
-use Rattle.std.specs.Ordering.{nat_cmp}
+use Rattle.std.proofs.Common.{◌≡◌, ℕ, Option, refl, subst, arith}
 use Rattle.version_cell.specs.calls.Changing.{KeepsVersions}
 use Rattle.version_cell.specs.meaning.Cell.{Timeline}
 use Rattle.version_cell.specs.meaning.Changes.{Track}

@@ -30,8 +30,8 @@ lower_of (Some x) None = Some x
 lower_of (Some x) (Some y) = Some (min x y)
 
 -- where the neighbours are
-abbrev pub ends_of : List Near → List ℕ
-ends_of near = mapped (λ n. n.to) near
+abbrev pub near_ends : List Near → List ℕ
+near_ends near = mapped (λ n. n.to) near
 
 -- the vertices without the first that are below v
 abbrev pub above : ℕ → List ℕ → List ℕ

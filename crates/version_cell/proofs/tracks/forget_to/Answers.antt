@@ -1,8 +1,7 @@
-use Rattle.std.proofs.Common.{ℕ, sym, ap, ◌∙◌, rules}
+use Rattle.std.proofs.Common.{sym, ap, ◌∙◌, rules}
 use Rattle.std.specs.Cmp.{nat_cmp_total}
 use Rattle.std.specs.FinMap as map
 use Rattle.std.specs.Option.{is_some}
-use Rattle.std.specs.Ordering.{nat_cmp}
 use Rattle.version_cell.specs.meaning.Cell.{changes_of}
 use Rattle.version_cell.specs.meaning.Changes.{changes_after}
 use Rattle.version_cell.specs.storage.Tracks.{is_changed}
