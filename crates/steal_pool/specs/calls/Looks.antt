@@ -1,12 +1,9 @@
 -- What a thief's look at the deque, or at the queue, does to it.
-use Rattle.std.specs.Prelude.{◌≡◌, ℕ, ◌+◌, ◌-◌, ◌^◌, ◌≤◌, min, [], ◌∷◌, ◌++◌}
+use Rattle.std.specs.Prelude.{◌≡◌, ℕ, ◌≤◌, [], ◌∷◌, ◌++◌}
+use Rattle.graph_types.specs.calls.Counts.{HasRisen}
 use Rattle.steal_pool.specs.meaning.Pool.{ThiefValue}
 use Rattle.steal_pool.specs.declared.thief.Look.{Look}
 use Rattle.steal_pool.specs.declared.thief.Look.TheVariants.{Task, Empty, Retry}
-
--- The count goes up. It is kept in 64 bits, so at its last value it counts as going up where it stays.
-abbrev pub CountsUp : ℕ → ℕ → Type 0
-CountsUp before now = min (before + 1) (2 ^ 64 - 1) ≤ now
 
 -- no count of empty looks falls
 pub record KeepsCounts (old new : ThiefValue) : Type 0 where
@@ -27,11 +24,11 @@ with_returned n thief = record thief { taken = thief.taken ++ n ∷ []; from_que
 -- a look at the deque takes its first task, or finds it empty, or tells nothing
 abbrev pub LooksAtDeque : {T : Type 0} → (T → ℕ) → ThiefValue → Look T → ThiefValue → Type 0
 LooksAtDeque number old (Task t) new = new ≡ with_fed (number t) old
-LooksAtDeque number old Empty new = (new ≡ record old { empty_deques = new.empty_deques }) × CountsUp old.empty_deques new.empty_deques
+LooksAtDeque number old Empty new = (new ≡ record old { empty_deques = new.empty_deques }) × HasRisen old.empty_deques new.empty_deques
 LooksAtDeque number old Retry new = new ≡ old
 
 -- the same of the queue
 abbrev pub LooksAtQueue : {T : Type 0} → (T → ℕ) → ThiefValue → Look T → ThiefValue → Type 0
 LooksAtQueue number old (Task t) new = new ≡ with_returned (number t) old
-LooksAtQueue number old Empty new = (new ≡ record old { empty_queues = new.empty_queues }) × CountsUp old.empty_queues new.empty_queues
+LooksAtQueue number old Empty new = (new ≡ record old { empty_queues = new.empty_queues }) × HasRisen old.empty_queues new.empty_queues
 LooksAtQueue number old Retry new = new ≡ old

@@ -1,7 +1,8 @@
 -- What a steal does, by its answer.
 use Rattle.std.specs.Prelude.{◌≡◌, ℕ, true, false, ◌⊎◌, List, [], ◌∷◌, ◌++◌, Option, None, Some}
+use Rattle.graph_types.specs.calls.Counts.{HasRisen}
 use Rattle.steal_pool.specs.meaning.Pool.{ThiefValue}
-use Rattle.steal_pool.specs.calls.Looks.{CountsUp, with_counts, with_fed, with_returned}
+use Rattle.steal_pool.specs.calls.Looks.{with_counts, with_fed, with_returned}
 use Rattle.steal_pool.specs.declared.thief.Look.{Look}
 use Rattle.steal_pool.specs.declared.thief.Look.TheVariants as look
 use Rattle.steal_pool.specs.declared.taken.Taken.{Taken}
@@ -9,13 +10,13 @@ use Rattle.steal_pool.specs.declared.taken.Taken.TheVariants.{Task, Shut, Ended}
 
 -- a look of this call found the deque empty, and one the queue
 pub record FindsBothEmpty (old new : ThiefValue) : Type 0 where
-  pub deque : CountsUp old.empty_deques new.empty_deques
-  pub queue : CountsUp old.empty_queues new.empty_queues
+  pub deque : HasRisen old.empty_deques new.empty_deques
+  pub queue : HasRisen old.empty_queues new.empty_queues
 
 -- The task with this number is the first of the deque; or the first of the queue, where a look of this call found the deque
 -- empty. Nothing else changes but the counts of empty looks.
 abbrev pub TakesTask : ℕ → ThiefValue → ThiefValue → Type 0
-TakesTask n old new = (new ≡ with_counts new (with_fed n old)) ⊎ ((new ≡ with_counts new (with_returned n old)) × CountsUp old.empty_deques new.empty_deques)
+TakesTask n old new = (new ≡ with_counts new (with_fed n old)) ⊎ ((new ≡ with_counts new (with_returned n old)) × HasRisen old.empty_deques new.empty_deques)
 
 -- nothing was taken, and nothing changes but the counts of empty looks
 abbrev pub OnlyLooks : ThiefValue → ThiefValue → Type 0
