@@ -30,14 +30,14 @@ pub enum Change {
 pub type ChangeList = List<Change>;
 
 /// Where an entry stands: at a vertex alone its label, at a vertex and another the label of their edge.
-pub(crate) type Place = (VertexId, Option<VertexId>);
+pub type Place = (VertexId, Option<VertexId>);
 
-/// Entries by their places.
-pub(crate) type Entries = BTreeMap<Place, Option<LabelId>>;
+/// Some entries of a graph by their places, with what stands there, or `None` where nothing does.
+pub type Entries = BTreeMap<Place, Option<LabelId>>;
 
 /// What differs between an earlier graph and `graph`, where `earlier` has each entry of the earlier one
 /// that differs, and may have more. Takes a look-up for each entry of `earlier`.
-pub(crate) fn changes_since(
+pub fn changes_since(
     alloc: Global,
     earlier: &Entries,
     graph: &Snapshot,
@@ -77,8 +77,8 @@ pub(crate) fn changes_until(
     Ok(changes)
 }
 
-/// What stands at a place.
-pub(crate) fn entry(graph: &Snapshot, place: Place) -> Option<LabelId>
+/// What stands at a place, or `None` where nothing does. Takes a look-up.
+pub fn entry(graph: &Snapshot, place: Place) -> Option<LabelId>
     ensures { result ≡ entry_at graph.now place }
 {
     let (vertex, to) = place;

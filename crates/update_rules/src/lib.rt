@@ -8,7 +8,8 @@ mod shards;
 mod steps;
 mod writes;
 
-pub use changes::{Change, ChangeList};
-pub use net::net_of;
-pub use shards::{Part, PartList, parts};
-pub use steps::{StepFault, step};
+pub use changes::{Change, ChangeList, Entries, Place, changes_since, entry};
+pub use net::{net_of, net_of_changes};
+pub use shards::{Part, PartList, parts, parts_of_changes};
+pub use steps::{StepFault, admit, apply, step};
+pub use writes::{changes_by, written_by};

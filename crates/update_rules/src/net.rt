@@ -27,7 +27,7 @@ pub fn net_of(alloc: Global, graph: &Snapshot, update: &Update) -> Result<Net, N
 
 /// The net change that these changes come to. Takes time linear in their number, with a search among the
 /// changed vertices for each changed edge.
-pub(crate) fn net_of_changes(alloc: Global, changes: &ChangeList) -> Result<Net, NoMemory>
+pub fn net_of_changes(alloc: Global, changes: &ChangeList) -> Result<Net, NoMemory>
     ensures { (before after : Graph) → IsSimple before → IsSimple after → changes.now ≡ changes_between before after →
         IfOk result (λ net. net ≡ net_change before after) }
 {

@@ -44,7 +44,7 @@ pub fn parts(
 
 /// The changes of each shard that has some. Takes a look-up among the shards that have changes for each
 /// change.
-pub(crate) fn parts_of_changes(
+pub fn parts_of_changes(
     alloc: Global,
     changes: &[Change],
     shards: u32,

@@ -37,7 +37,7 @@ pub fn step(graph: &mut Snapshot, update: &Update) -> Result<(), StepFault>
 }
 
 /// Whether the snapshot accepts the update, and else why not, in a few look-ups. It takes no memory.
-pub(crate) fn admit(graph: &Snapshot, update: &Update) -> Result<(), Refusal>
+pub fn admit(graph: &Snapshot, update: &Update) -> Result<(), Refusal>
     ensures { Admits graph.now update.now result }
 {
     match *update {
@@ -51,7 +51,7 @@ pub(crate) fn admit(graph: &Snapshot, update: &Update) -> Result<(), Refusal>
 }
 
 /// Makes an update that the snapshot accepts. Out of memory changes nothing.
-pub(crate) fn apply(graph: &mut Snapshot, update: &Update) -> Result<(), NoMemory>
+pub fn apply(graph: &mut Snapshot, update: &Update) -> Result<(), NoMemory>
     requires { IsOk (graph_step graph.old update.now) }
     ensures ok { OnOk result (graph.new ≡ graph_after graph.old update.now) }
     ensures err { OnErr result (graph.new ≡ graph.old) }

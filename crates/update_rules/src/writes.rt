@@ -11,22 +11,18 @@ use std::alloc::Global;
 
 /// What differs between the graph and the graph after the update, which it accepts. Takes constant time
 /// with a few look-ups, and to remove a vertex a few look-ups for each of its edges.
-pub(crate) fn changes_by(
-    alloc: Global,
-    graph: &Snapshot,
-    update: &Update,
-) -> Result<ChangeList, NoMemory>
+pub fn changes_by(alloc: Global, graph: &Snapshot, update: &Update) -> Result<ChangeList, NoMemory>
     requires { IsOk (graph_step graph.now update.now) }
     ensures { IfOk result (λ changes. changes ≡ changes_between graph.now (graph_after graph.now update.now)) }
 {
     graph.simple();
-    let entries = writes(alloc, graph, update)?;
+    let entries = written_by(alloc, graph, update)?;
     changes_until(alloc, graph, &entries)
 }
 
 /// What the update, which the graph accepts, leaves at each entry that it changes, or gives again. Takes
 /// constant time, and to remove a vertex time linear in the number of its edges.
-pub(crate) fn writes(alloc: Global, graph: &Snapshot, update: &Update) -> Result<Entries, NoMemory>
+pub fn written_by(alloc: Global, graph: &Snapshot, update: &Update) -> Result<Entries, NoMemory>
     requires { IsOk (graph_step graph.now update.now) }
     ensures { IfOk result (λ entries. IsOverlaid entries graph.now (graph_after graph.now update.now)) }
 {

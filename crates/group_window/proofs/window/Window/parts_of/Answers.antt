@@ -1,0 +1,11 @@
+use Rattle.std.proofs.Common.{◌≡◌, ◌<◌, ◌+◌, length, subst, sym}
+use Rattle.update_rules.specs.meaning.Parts.{parts_between}
+use Rattle.group_window.specs.meaning.Windows.{WindowValue, graph_of}
+use Rattle.group_window.proofs.GroupsInOrder.{told-at}
+use Rattle.group_window.proofs.window.Window.parts_of.Goals as goal
+
+pub returns : goal.returns
+returns c =
+    let s = c.self.inside in
+    subst (λ (w : WindowValue). c.index.result.now.difference.parts ≡ parts_between (graph_of w c.args.i) (graph_of w (c.args.i + 1)) w.shards) c.self.view_is
+    (told-at s.shards s.groups.items s.current c.args.i c.index.result.now c.self.invariant (subst (λ (w : WindowValue). c.args.i < length w.later) (sym c.self.view_is) c.requires) c.index.ensures).parts

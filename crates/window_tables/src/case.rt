@@ -1,0 +1,46 @@
+ghost use Rattle.std.specs.Prelude.{◌≤◌, IfOk};
+
+use graph_types::NoMemory;
+use std::alloc::{AllocError, AllocFailed};
+
+/// Why a case has no answer.
+#[derive(Clone, Copy, Debug)]
+pub enum CaseFault {
+    /// It is in the form of no table.
+    BadCase,
+    /// An allocation was refused.
+    NoMemory,
+}
+
+impl From<NoMemory> for CaseFault {
+    fn from(_error: NoMemory) -> CaseFault {
+        CaseFault::NoMemory
+    }
+}
+
+impl From<AllocError> for CaseFault {
+    fn from(_error: AllocError) -> CaseFault {
+        CaseFault::NoMemory
+    }
+}
+
+impl<T: Drop> From<AllocFailed<T>> for CaseFault {
+    fn from(_error: AllocFailed<T>) -> CaseFault {
+        CaseFault::NoMemory
+    }
+}
+
+/// The first field of a case, and what stands after it.
+pub fn field(text: &str) -> (&str, &str) {
+    text.split_once(' ').unwrap_or((text, ""))
+}
+
+/// A number of shards.
+pub fn shards(word: &str) -> Result<u32, CaseFault>
+    ensures { IfOk result (λ shards. 1 ≤ shards) }
+{
+    match word.parse::<u32>() {
+        Ok(shards) if shards > 0 => Ok(shards),
+        _ => Err(CaseFault::BadCase),
+    }
+}
