@@ -1,0 +1,11 @@
+pub mod SameItems
+pub mod Members
+pub mod Pictures
+pub mod Crossings
+pub mod LinkedVertices
+pub mod LinkedEdges
+pub mod Linked
+pub mod Unchanged
+pub mod Seeded
+pub mod Live
+pub mod Embedded

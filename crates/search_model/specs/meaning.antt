@@ -1,0 +1,5 @@
+-- What is meant.
+pub mod Joined
+pub mod Seeds
+pub mod Near
+pub mod Finds
