@@ -1,0 +1,2 @@
+-- What the calls do.
+pub mod Candidates

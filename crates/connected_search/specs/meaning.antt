@@ -1,0 +1,4 @@
+-- What is meant.
+pub mod Space
+pub mod Trials
+pub mod Wanted
