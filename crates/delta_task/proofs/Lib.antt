@@ -1,0 +1,4 @@
+pub mod Sorting
+pub mod Alone
+pub mod Noted
+pub mod Telling

@@ -1,0 +1,10 @@
+//! One group of updates: which pieces it takes away, and which it brings.
+#![tactic(auto)]
+
+mod catching;
+mod delta;
+mod finding;
+
+pub use catching::{DeltaCatch, DeltaNote};
+pub use delta::{Delta, DeltaStop, delta_of};
+pub use finding::{FindStop, finds_of};
