@@ -33,8 +33,8 @@ pub struct Stream {
 pub enum Taken {
     /// The graph is as it was: the line belongs to the header, or says nothing.
     Moved(Job),
-    /// The graph changed, by a group of updates that takes the next timestamp.
-    Accepted(Stream),
+    /// The graph changed, by this update: it is a group of its own, and takes the next timestamp.
+    Accepted(Stream, Update),
 }
 
 impl Job {
@@ -104,7 +104,7 @@ fn take_update(alloc: Global, stream: Stream, line: u64, text: &[u8]) -> Result<
                     graph,
                 },
                 line,
-                &update,
+                update,
             )
         }
         Ok(Item::Nothing | Item::Commit) => Ok(Taken::Moved(Job::Streaming(Stream {
@@ -119,11 +119,11 @@ fn take_update(alloc: Global, stream: Stream, line: u64, text: &[u8]) -> Result<
 }
 
 /// Makes the update of a line. Each update is a group of its own.
-fn make(mut stream: Stream, line: u64, update: &Update) -> Result<Taken, JobFault>
-    ensures { MakesUpdate line stream update.now result }
+fn make(mut stream: Stream, line: u64, update: Update) -> Result<Taken, JobFault>
+    ensures { MakesUpdate line stream update result }
 {
-    match step(&mut stream.graph, update) {
-        Ok(()) => Ok(Taken::Accepted(stream)),
+    match step(&mut stream.graph, &update) {
+        Ok(()) => Ok(Taken::Accepted(stream, update)),
         Err(StepFault::Refused(why)) => Err(JobFault::Refused(JobRefusal::Update { line, why })),
         Err(StepFault::NoMemory) => Err(JobFault::NoMemory),
     }

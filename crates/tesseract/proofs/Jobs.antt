@@ -15,7 +15,7 @@ use Rattle.job.proofs.Bounds.{verdict-bounded}
 use Rattle.tesseract.specs.declared.limits.Limits.{Limits}
 use Rattle.tesseract.specs.meaning.Output.{IsWrittenUpto, output}
 use Rattle.tesseract.proofs.Outputs.{written-within}
-use Rattle.tesseract.proofs.Standing.{embeddings-empty}
+use Rattle.tesseract.proofs.Nothing.{embeddings-empty}
 
 module _ (limits : Limits) (lines : List Line) (limit : limits.lines ≤ 10 ^ 19) (pattern : Pattern)
     (is : (verdict limits.lines lines).pattern ≡ Some pattern) where

@@ -2,7 +2,9 @@ pub mod Reaching
 pub mod Leading
 pub mod Going
 pub mod Turning
-pub mod Standing
+mod Stepping
+mod Deltas
+mod Nothing
 mod Commands
 mod Jobs
 mod Listing

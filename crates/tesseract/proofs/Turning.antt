@@ -1,8 +1,7 @@
 -- A line leads a run on, or the run ends.
 use Rattle.std.proofs.Common.{◌≡◌, ◌≢◌, ℕ, suc, ◌+◌, ◌≤◌, inl, inr, IsTrue, true, false, List, [], length}
 use Rattle.std.proofs.Common.{◌∷◌, ◌++◌, Option, None, Some, Result, Ok, Err, refl, sym, ap, ◌∙◌}
-use Rattle.std.proofs.Common.{subst, append-nil, arith, Bool}
-use Rattle.std.proofs.lemmas.List.{length-map}
+use Rattle.std.proofs.Common.{subst, append-nil, arith, Bool, le-ltb, lt-ltb}
 use Rattle.std.specs.Prelude.{nat_lt}
 use Rattle.job_io.specs.calls.Ends.{BothKnown, AppendsPrefix, PassesOn, Puts, Gathers}
 use Rattle.job_io.proofs.Gathering.{PassesOn-start, PassesOn-then, Gathers-put}
@@ -14,13 +13,10 @@ use Rattle.job_io.specs.declared.line_reader.LineFault.TheVariants as line
 use Rattle.job_io.proofs.Known.{BothKnown-map, BothKnown-same}
 use Rattle.job_io.proofs.LinesOf.{lf_or_none, lines_of-whole, lines_of-last, some_line}
 use Rattle.cond_eval.specs.meaning.Patterns.{pattern_of}
-use Rattle.graph_types.specs.meaning.Piece.{PieceValue, members_of_all}
-use Rattle.graph_types.specs.declared.member.Member.{Member}
-use Rattle.graph_types.specs.meaning.Graph.{Graph}
-use Rattle.filter_polarity.specs.meaning.Program.{ProgramValue}
-use Rattle.mining_model.specs.meaning.Changes.{difference}
-use Rattle.mining_model.specs.meaning.Embeddings.{embeddings}
-use Rattle.record_text.specs.meaning.Text.{delta_text, done_text}
+use Rattle.graph_types.specs.declared.update.Update.{Update}
+use Rattle.graph_types.specs.meaning.Graph.{Graph, empty_graph}
+use Rattle.mining_model.specs.meaning.Step.{step}
+use Rattle.record_text.specs.meaning.Text.{record_count, step_text}
 use Rattle.job.specs.calls.Taking.{stage_of, stage_of_stream, TakesLine}
 use Rattle.job.specs.declared.fault.JobFault.{JobFault}
 use Rattle.job.specs.declared.fault.JobFault.TheVariants as fault
@@ -41,24 +37,22 @@ use Rattle.tesseract.specs.declared.limits.Limits.{Limits}
 use Rattle.tesseract.specs.declared.mine.Run.{Run}
 use Rattle.tesseract.specs.declared.mine.Turn.{Turn}
 use Rattle.tesseract.specs.declared.mine.Turn.TheVariants as turn
-use Rattle.tesseract.specs.declared.miner.Changes.{Changes}
 use Rattle.tesseract.specs.declared.miner.Miner.{Miner}
 use Rattle.tesseract.specs.meaning.Status.{status_of_end, status_of_fault, status_of_refusal}
-use Rattle.tesseract.specs.calls.Miner.{IsMined, change_count, changes_text, pieces_delta_count, pieces_delta_text}
 use Rattle.tesseract.specs.calls.Run.{WritesPrefix}
-use Rattle.tesseract.specs.calls.Running.{IsRunning, HasEnded, EndsJob, IsEnd, StandsAt}
-use Rattle.tesseract.specs.calls.Turning.{Advances, MinesGroup, IsWritten, StandsAtNext, StandsAtNextAfter, Turns}
+use Rattle.tesseract.specs.calls.Running.{IsRunning, HasEnded, EndsJob, IsEnd}
+use Rattle.tesseract.specs.calls.Turning.{Advances, MinesGroup, IsWritten, StandsAtNext, StandsAtNextAfter, Turns, group_count, group_text}
+use Rattle.tesseract.proofs.Stepping.{accepted-steps}
 use Rattle.tesseract.proofs.Leading.{BringsGroup, GoesOn, Moves}
 use Rattle.tesseract.proofs.Going.{Running-start, Running-led, Running-full}
 use Rattle.tesseract.proofs.Going.{Running-fails, Running-ended}
-use Rattle.tesseract.proofs.Standing.{StandsAt-start, StandsAt-moved, StandsAt-stream}
 
 -- A run stands between two lines.
 pub record StandsBetween (limits : Limits) (left0 left written0 written : Option (List ℕ)) (page : List ℕ)
     (reader : Reading) (run : Run) : Type 0 where
   pub running :
       IsRunning limits left0 left written0 written page reader (stage_of run.job) run.miner.stamp
-  pub stands : StandsAt (stage_of run.job) run.miner.standing
+  pub stands : run.miner.graph ≡ graph_at_stage (stage_of run.job)
   pub live : IsTrue reader.live
   pub most_is : reader.most ≡ limits.lines
   pub few : reader.number ≤ limits.lines
@@ -231,34 +225,30 @@ module _ (records : ℕ) (old new : Reading) (was is : Option (List ℕ)) (job :
       ∙ ap (λ n. text_judgement n (stage_of job) (without_cr new.line.bytes)) next
       ∙ ap (λ bytes. text_judgement n (stage_of job) bytes) (sym bytes_is)
 
-  -- the same pieces stand after a line that brings no group
-  pub still_stands : (next : Job) (standing : List PieceValue) → StandsAt (stage_of job) standing →
-      TakesLine n (stage_of job) bytes (Ok (Moved next)) → StandsAt (stage_of next) standing
-  still_stands next standing at taken =
-      StandsAt-moved (stage_of job) (stage_of next) standing at
-      (moved-LeadsOn old.most (suc old.number) (stage_of job) (stage_of next) new.line.bytes (judged ∙ taken))
+  -- the graph that the miner has accepts the update of a group, which leads to the stream's
+  pub steps_on : (stream : Stream) (u : Update) (g : Graph) → g ≡ graph_at_stage (stage_of job) →
+      TakesLine n (stage_of job) bytes (Ok (Accepted stream u)) → step g u ≡ Ok stream.graph
+  steps_on stream u g at taken =
+      ap (λ g. step g u) at ∙ accepted-steps n (stage_of job) (stage_of_stream stream) bytes u taken
 
-  -- the pieces of the graph after a group stand, once it is mined
-  module _ (stream : Stream) (miner : Miner) (at : StandsAt (stage_of job) miner.standing)
-      (taken : TakesLine n (stage_of job) bytes (Ok (Accepted stream))) (written written' : Option (List ℕ))
-      (page page' : List ℕ) where
-    still_stands_after : (run : Run) →
-        IsWritten records (members_of_all miner.standing) (embeddings (pattern_of stream.program) stream.graph) stream
-        miner written written' page page' run →
-        StandsAt (stage_of run.job) run.miner.standing
-    still_stands_after run mined =
-        subst (λ (j : Job). StandsAt (stage_of j) run.miner.standing) (sym mined.same_job)
-        (StandsAt-stream (pattern_of stream.program) stream.names stream.graph run.miner.standing mined.standing)
+  -- the miner has the graph still after a line that brings no group
+  pub stands_still : (next : Job) (g : Graph) → g ≡ graph_at_stage (stage_of job) →
+      TakesLine n (stage_of job) bytes (Ok (Moved next)) → g ≡ graph_at_stage (stage_of next)
+  stands_still next g at taken =
+      at
+      ∙ sym (moved-LeadsOn old.most (suc old.number) (stage_of job) (stage_of next) new.line.bytes (judged ∙ taken)).same_graph
 
-    pub goes_group : (result : Result Turn WriteFault) → miner.stamp ≤ old.number →
-        MinesGroup records stream miner written page written' page' result → StandsAtNextAfter old new result
-    goes_group (Ok (turn.More run)) stamped mined = (
-      stands.2,
-      omega (arith, stamped, mined.next_stamp, stands.2.counted),
-      still_stands_after run mined,
-    )
-    goes_group (Ok (turn.End why)) stamped mined = tt
-    goes_group (Err bad) stamped mined = tt
+  -- the miner has the graph after a group, once it is mined
+  pub goes_group : (stream : Stream) (miner : Miner) (written written' : Option (List ℕ)) (page page' : List ℕ)
+      (result : Result Turn WriteFault) → miner.stamp ≤ old.number →
+      MinesGroup records stream miner written page written' page' result → StandsAtNextAfter old new result
+  goes_group stream miner written written' page page' (Ok (turn.More run)) stamped mined = (
+    stands.2,
+    omega (arith, stamped, mined.next_stamp, stands.2.counted),
+    mined.graph ∙ sym (ap (λ (j : Job). graph_at_stage (stage_of j)) mined.same_job),
+  )
+  goes_group stream miner written written' page page' (Ok (turn.End why)) stamped mined = tt
+  goes_group stream miner written written' page page' (Err bad) stamped mined = tt
 
   module _ (left0 written0 written : Option (List ℕ)) (page : List ℕ) (t : ℕ)
       (running : IsRunning limits left0 was written0 written page old (stage_of job) t) where
@@ -294,56 +284,49 @@ module _ (records : ℕ) (old new : Reading) (was is : Option (List ℕ)) (job :
     turn_faults (fault.Refused why) taken = turn_ends why taken
     turn_faults fault.NoMemory taken = turn_starves
 
-    -- The line brings a group. These pieces stood before it.
-    module _ (stream : Stream) (miner : Miner) (stamp_is : miner.stamp ≡ t)
-        (at : StandsAt (stage_of job) miner.standing)
-        (taken : TakesLine n (stage_of job) bytes (Ok (Accepted stream))) where
-      abbrev before : List (List Member)
-      before = members_of_all miner.standing
-
-      abbrev now : List (List Member)
-      now = embeddings (pattern_of stream.program) stream.graph
-
+    -- The line brings a group. The miner has the graph before it.
+    module _ (stream : Stream) (u : Update) (miner : Miner) (stamp_is : miner.stamp ≡ t)
+        (at : miner.graph ≡ graph_at_stage (stage_of job))
+        (taken : TakesLine n (stage_of job) bytes (Ok (Accepted stream u))) where
       abbrev next : Stage
       next = stage_of_stream stream
 
-      accepted_is : judgement old.most (suc old.number) (stage_of job) new.line.bytes ≡ accepted taken.0 next
-      accepted_is = judged ∙ taken.1
+      accepted_is : judgement old.most (suc old.number) (stage_of job) new.line.bytes ≡ accepted (u ∷ []) next
+      accepted_is = judged ∙ taken
 
       known : pattern_at (stage_of job) ≡ Some (pattern_of stream.program)
       known =
-          let a = accepted-Accepts old.most (suc old.number) (stage_of job) next new.line.bytes taken.0 accepted_is in
+          let a = accepted-Accepts old.most (suc old.number) (stage_of job) next new.line.bytes (u ∷ []) accepted_is in
           a.known ∙ sym a.same_pattern
 
-      stood : before ≡ embeddings (pattern_of stream.program) (graph_at_stage (stage_of job))
-      stood = at.known (pattern_of stream.program) known
-
-      brings : (many : Bool) → nat_lt records (pieces_delta_count before now) ≡ many →
-          BringsGroup limits many (suc old.number) (stage_of job) t new.line.bytes next (suc t)
-          (pieces_delta_text (suc t) before now)
+      brings : (many : Bool) → nat_lt records (group_count stream miner) ≡ many →
+          BringsGroup limits many (suc old.number) (stage_of job) t new.line.bytes next (suc miner.stamp)
+          (group_text stream miner)
       brings many count = record {
-        group = taken.0;
+        group = u ∷ [];
         pattern = pattern_of stream.program;
         accepted_is = accepted_is;
         known = known;
-        count_is = ap (λ pieces. nat_lt records (pieces_delta_count pieces now)) (sym stood) ∙ count;
-        stamp_is = refl;
-        text_is = ap (λ pieces. pieces_delta_text (suc t) pieces now) stood;
+        count_is =
+            ap (λ g. nat_lt records (record_count (pattern_of stream.program) g stream.graph)) (sym at) ∙ count;
+        stamp_is = ap suc stamp_is;
+        text_is =
+            ap (λ g. step_text (pattern_of stream.program) g stream.graph (suc miner.stamp)) at
+            ∙ ap (λ t. step_text (pattern_of stream.program) (graph_at_stage (stage_of job)) stream.graph (suc t)) stamp_is;
       }
 
       -- it is mined, and its text is passed on
       pub turn_mined : (written' : Option (List ℕ)) (page' : List ℕ) (run : Run) →
-          IsWritten records before now stream miner written written' page page' run →
+          IsWritten records stream miner written written' page page' run →
           IsRunning limits left0 is written0 written' page' new (stage_of run.job) run.miner.stamp
       turn_mined written' page' run mined =
-          let stamp : suc t ≡ run.miner.stamp = sym (mined.next_stamp ∙ ap suc stamp_is) in
-          subst (λ u. IsRunning limits left0 is written0 written' page' new (stage_of run.job) u) stamp
-          (subst (λ (j : Job). IsRunning limits left0 is written0 written' page' new (stage_of j) (suc t)) (sym mined.same_job)
-          (Running-led limits left0 was is written0 written written' page page' (pieces_delta_text (suc t) before now)
-          old new (stage_of job) next t (suc t)
-          stands.1.no_lf (omega (arith, stands.2.counted)) (inr (brings false mined.few))
-          (subst (λ t. PassesOn written page written' page' (pieces_delta_text (suc t) before now)) stamp_is mined.passed)
-          stands.0 running))
+          subst (λ u. IsRunning limits left0 is written0 written' page' new (stage_of run.job) u) (sym mined.next_stamp)
+          (subst (λ (j : Job). IsRunning limits left0 is written0 written' page' new (stage_of j) (suc miner.stamp))
+          (sym mined.same_job)
+          (Running-led limits left0 was is written0 written written' page page' (group_text stream miner)
+          old new (stage_of job) next t (suc miner.stamp)
+          stands.1.no_lf (omega (arith, stands.2.counted)) (inr (brings false (le-ltb records (group_count stream miner) mined.few)))
+          mined.passed stands.0 running))
 
       -- how mining it ends
       pub turn_group : (written' : Option (List ℕ)) (page' : List ℕ) (result : Result Turn WriteFault) →
@@ -356,54 +339,21 @@ module _ (records : ℕ) (old new : Reading) (was is : Option (List ℕ)) (job :
           (subst (λ held. IsEnd status.NoMemory × HasEnded limits left0 is written0 written held status.NoMemory) (sym held)
           turn_starves))
       turn_group written' page' (Ok (turn.End why)) ((same, held), inr full) =
-          let is_full : why ≡ status.Limit limit.Records (suc t) =
-          full.why_is ∙ ap (λ t. status.Limit limit.Records (suc t)) stamp_is in
-          subst (λ why. IsEnd why × HasEnded limits left0 is written0 written' page' why) (sym is_full) (
+          subst (λ why. IsEnd why × HasEnded limits left0 is written0 written' page' why) (sym full.why_is) (
             tt,
-            subst (λ w. HasEnded limits left0 is written0 w page' (status.Limit limit.Records (suc t))) (sym same)
-                (subst (λ held. HasEnded limits left0 is written0 written held (status.Limit limit.Records (suc t))) (sym held)
-                (Running-full limits left0 was is written0 written page (pieces_delta_text (suc t) before now) old new
-                (stage_of job) next t (suc t) stands.0 (brings true full.many) running)),
+            subst (λ w. HasEnded limits left0 is written0 w page' (status.Limit limit.Records (suc miner.stamp))) (sym same)
+                (subst (λ held. HasEnded limits left0 is written0 written held (status.Limit limit.Records (suc miner.stamp))) (sym held)
+                (Running-full limits left0 was is written0 written page (group_text stream miner) old new
+                (stage_of job) next t (suc miner.stamp) stands.0 (brings true (lt-ltb records (group_count stream miner) full.many)) running)),
           )
       turn_group written' page' (Err bad) unwritten =
           Running-unwritten limits left0 was written0 old (stage_of job) t is written written' page
-          (pieces_delta_text (suc t) before now) new next (suc t) stands.0 (brings false unwritten.few)
-          (subst (λ t. AppendsPrefix written written' (page ++ pieces_delta_text (suc t) before now)) stamp_is unwritten.part)
-          running
-
-counted_pieces : (pieces : List PieceValue) (lists : List (List Member)) → members_of_all pieces ≡ lists →
-    length pieces ≡ length lists
-counted_pieces pieces lists is = sym (length-map pieces (λ (p : PieceValue). p.members)) ∙ ap length is
-
-module _ (old new : Miner) (program : ProgramValue) (g : Graph) (changes : Changes)
-    (mined : IsMined old program g new changes) where
-  abbrev pieces_before : List (List Member)
-  pieces_before = members_of_all old.standing
-
-  abbrev pieces_now : List (List Member)
-  pieces_now = embeddings (pattern_of program) g
-
-  rem_is : members_of_all changes.rem ≡ difference pieces_before pieces_now
-  rem_is = mined.rem ∙ ap (λ now. difference pieces_before now) mined.standing
-
-  add_is : members_of_all changes.add ≡ difference pieces_now pieces_before
-  add_is = mined.add ∙ ap (λ now. difference now pieces_before) mined.standing
-
-  -- the changes are those of the pieces
-  pub changes-count : change_count changes ≡ pieces_delta_count pieces_before pieces_now
-  changes-count =
-      ap (λ n. n + length changes.add) (counted_pieces changes.rem (difference pieces_before pieces_now) rem_is)
-      ∙ ap (λ n. length (difference pieces_before pieces_now) + n) (counted_pieces changes.add (difference pieces_now pieces_before) add_is)
-
-  pub changes-text : changes_text new.stamp changes ≡ pieces_delta_text (suc old.stamp) pieces_before pieces_now
-  changes-text =
-      ap (λ t. changes_text t changes) mined.next_stamp
-      ∙ ap (λ rem. delta_text (suc old.stamp) rem (members_of_all changes.add) ++ done_text (suc old.stamp)) rem_is
-      ∙ ap (λ add. delta_text (suc old.stamp) (difference pieces_before pieces_now) add ++ done_text (suc old.stamp)) add_is
+          (group_text stream miner) new next (suc miner.stamp) stands.0 (brings false (le-ltb records (group_count stream miner) unwritten.few))
+          unwritten.part running
 
 -- a run stands before its first line
 pub StandsBetween-start : (limits : Limits) (left written : Option (List ℕ)) (page : List ℕ)
-    (reader : Reading) (run : Run) → page ≡ [] → stage_of run.job ≡ first_stage → run.miner.standing ≡ [] →
+    (reader : Reading) (run : Run) → page ≡ [] → stage_of run.job ≡ first_stage → run.miner.graph ≡ empty_graph →
     run.miner.stamp ≡ 0 →
     reader.line ≡ record { bytes = []; whole = true } → reader.number ≡ 0 → reader.most ≡ limits.lines →
     reader.live ≡ true → reader.held ≡ [] →
@@ -416,9 +366,7 @@ StandsBetween-start limits left written page reader run nothing begun none stamp
       running =
           subst (λ stage. IsRunning limits left left written written [] reader stage run.miner.stamp) (sym begun)
           (subst (IsRunning limits left left written written [] reader first_stage) (sym stamp) running);
-      stands =
-          subst (λ stage. StandsAt stage run.miner.standing) (sym begun)
-          (subst (StandsAt first_stage) (sym none) StandsAt-start);
+      stands = none ∙ sym (ap graph_at_stage begun);
       live = live;
       most_is = most_is;
       few = omega (arith, number);
@@ -447,7 +395,7 @@ pub StandsBetween-goes : (limits : Limits) (left0 left written0 written left' wr
     (stage_of run.job) run.miner.stamp →
     IsRunning (record { lines = reader.most; records = limits.records }) left0 left' written0 written' page' reader'
     (stage_of next.job) next.miner.stamp) →
-    StandsAtNext reader reader' × (next.miner.stamp ≤ reader'.number) × StandsAt (stage_of next.job) next.miner.standing →
+    StandsAtNext reader reader' × (next.miner.stamp ≤ reader'.number) × (next.miner.graph ≡ graph_at_stage (stage_of next.job)) →
     StandsBetween limits left0 left' written0 written' page' reader' next
 StandsBetween-goes limits left0 left written0 written left' written' page page' reader reader' run next stands runs goes =
     record {

@@ -4,5 +4,5 @@ pub struct Limits {
     /// The most lines.
     pub lines: u64,
     /// The most records of a timestamp.
-    pub records: u64,
+    pub records: u32,
 }

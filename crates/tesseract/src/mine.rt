@@ -1,18 +1,21 @@
-ghost use Rattle.std.specs.Prelude.{◌≡◌, ◌≢◌, Contains, ◌+◌, ◌<◌, ◌≤◌, ◌^◌, ◌⊎◌, ℕ, [], List, Option, Some, IsTrue, Ok, OnErr, OnOk};
+ghost use Rattle.std.specs.Prelude.{◌≡◌, ◌≢◌, Contains, ◌+◌, ◌++◌, ◌<◌, ◌≤◌, ◌^◌, ◌⊎◌, ℕ, [], List, Option, Some, IsTrue, Ok, OnErr, OnOk};
+ghost use Rattle.graph_types.specs.meaning.Piece.{members_of_all};
+ghost use Rattle.mining_model.specs.meaning.Step.{step};
+ghost use Rattle.record_text.specs.meaning.Text.{delta_text, done_text};
 ghost use Rattle.job.specs.calls.Taking.{stage_of};
-ghost use Rattle.job.specs.meaning.Judging.{close_at};
+ghost use Rattle.job.specs.meaning.Judging.{close_at, graph_at_stage};
 ghost use Rattle.job_io.specs.meaning.Lines.{lf};
 ghost use Rattle.job_io.specs.calls.Ends.{Gathers, HasCause, HasRisen};
-ghost use Rattle.tesseract.specs.calls.Miner.{changes_text};
 ghost use Rattle.tesseract.specs.calls.Run.{Mines, WritesTold};
-ghost use Rattle.tesseract.specs.calls.Running.{IsRunning, StandsAt};
+ghost use Rattle.tesseract.specs.calls.Running.{IsRunning};
 ghost use Rattle.tesseract.specs.meaning.Status.{status_of_end};
 ghost use Rattle.tesseract.specs.calls.Turning.{Advances, MinesGroup, StandsAtNextAfter, Turns, MinesLines};
 
 use crate::limits::Limits;
-use crate::miner::{Changes, Miner};
+use crate::miner::Miner;
 use crate::status::{LimitKind, Status};
-use graph_types::Stamp;
+use delta_task::Delta;
+use graph_types::{PieceList, Stamp, Update};
 use job::{Job, Stream, Taken};
 use job_io::{LineFault, LineReader, Page, Sink, Source, WriteFault};
 use record_text::{write_delta, write_done};
@@ -92,7 +95,7 @@ fn mine_lines<S: Source, O: Sink>(
 /// Takes the next line, whose timestamp may have at most `most` records.
 fn take_line<S: Source, O: Sink>(
     alloc: Global,
-    most: u64,
+    most: u32,
     reader: &mut LineReader,
     run: Run,
     page: &mut Page,
@@ -101,7 +104,7 @@ fn take_line<S: Source, O: Sink>(
 ) -> Result<Turn, WriteFault>
     requires live { IsTrue reader.old.live }
     requires stamped { run.miner.stamp ≤ reader.old.number }
-    requires stands { StandsAt (stage_of run.job) run.miner.standing }
+    requires stands { run.miner.graph ≡ graph_at_stage (stage_of run.job) }
     ensures runs { (left0 written0 : Option (List ℕ)) →
         IsRunning (record { lines = reader.old.most; records = most }) left0 (S.left input.old) written0 (O.written out.old)
         page.old reader.old (stage_of run.job) run.miner.stamp →
@@ -121,34 +124,38 @@ fn take_line<S: Source, O: Sink>(
     }
     match job.take(alloc, reader.number(), reader.bytes()) {
         Ok(Taken::Moved(job)) => Ok(Turn::More(Run { job, miner })),
-        Ok(Taken::Accepted(stream)) => mine_group(alloc, most, stream, miner, page, out),
+        Ok(Taken::Accepted(stream, update)) => {
+            mine_group(alloc, most, stream, &update, miner, page, out)
+        }
         Err(fault) => Ok(Turn::End(Status::from(fault))),
     }
 }
 
-/// Mines the group of updates that led to this stream, and writes its records, of which there may be `most`.
+/// Mines the update that led to this stream, and writes its records, of which there may be `most`.
 fn mine_group<O: Sink>(
     alloc: Global,
-    most: u64,
+    most: u32,
     stream: Stream,
-    miner: Miner,
+    update: &Update,
+    mut miner: Miner,
     page: &mut Page,
     out: &mut O,
 ) -> Result<Turn, WriteFault>
-    requires { miner.stamp + 1 < 2 ^ 64 }
+    requires few { miner.stamp + 1 < 2 ^ 64 }
+    requires steps { step miner.graph update.now ≡ Ok stream.graph }
     ensures mines { MinesGroup most stream miner (O.written out.old) page.old (O.written out.new) page.new result }
     ensures cause { HasCause (O.faults out.old) (O.faults out.new) result }
 {
-    let Ok((miner, changes)) = miner.advance(alloc, &stream.program, &stream.graph) else {
+    let Ok(delta) = miner.advance(alloc, &stream.program, update, &stream.graph, most) else {
         return Ok(Turn::End(Status::NoMemory));
     };
-    if changes.are_more_than(most) {
+    let Delta::Listed { rem, add } = delta else {
         return Ok(Turn::End(Status::Limit {
             kind: LimitKind::Records,
             at: miner.stamp.0,
         }));
-    }
-    write_changes(out, page, miner.stamp, &changes)?;
+    };
+    write_changes(out, page, miner.stamp, &rem, &add)?;
     Ok(Turn::More(Run {
         job: Job::Streaming(stream),
         miner,
@@ -217,12 +224,13 @@ fn write_changes<O: Sink>(
     out: &mut O,
     page: &mut Page,
     t: Stamp,
-    changes: &Changes,
+    rem: &PieceList,
+    add: &PieceList,
 ) -> Result<(), WriteFault>
     ensures text { Gathers (O.written out.old) page.old (O.written out.new) page.new
-        (changes_text t changes.now) result }
+        (delta_text t (members_of_all rem.now) (members_of_all add.now) ++ done_text t) result }
     ensures cause { HasCause (O.faults out.old) (O.faults out.new) result }
 {
-    write_delta(out, page, t, &changes.rem, &changes.add)?;
+    write_delta(out, page, t, rem, add)?;
     write_done(out, page, t)
 }

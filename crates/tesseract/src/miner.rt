@@ -1,64 +1,126 @@
-ghost use Rattle.std.specs.Prelude.{◌≡◌, ◌+◌, ◌<◌, ◌^◌, [], IfOk, nat_lt};
-ghost use Rattle.tesseract.specs.calls.Miner.{IsMined, change_count};
+ghost use Rattle.std.specs.Prelude.{◌≡◌, ◌+◌, ◌<◌, ◌^◌, IfOk, length, nat_lt};
+ghost use Rattle.graph_types.specs.declared.ids.Mode.TheVariants as mode;
+ghost use Rattle.graph_types.specs.meaning.Graph.{empty_graph};
+ghost use Rattle.mining_model.specs.meaning.Step.{step};
+ghost use Rattle.cond_eval.specs.meaning.Patterns.{pattern_of};
+ghost use Rattle.delta_task.specs.calls.Deltas.{IsDelta};
+ghost use Rattle.tesseract.specs.calls.Miner.{IsMined};
 
+use delta_task::{Delta, DeltaStop, delta_of};
 use filter_polarity::Program;
-use graph_types::{NoMemory, PieceList, Snapshot, Stamp};
+use graph_types::{Mode, NoMemory, PieceList, Snapshot, Stamp, TwoSnapshots, Update};
 use plain_miner::{embeddings, without};
 use std::alloc::Global;
+use update_rules::{apply, net_of};
 
-/// The embeddings at a timestamp, ascending.
+/// The graph at the last timestamp that was mined.
 #[derive(Drop)]
 pub struct Miner {
-    pub standing: PieceList,
+    pub graph: Snapshot,
     pub stamp: Stamp,
 }
 
-/// What a group of updates took away and what it brought, both ascending.
-#[derive(Drop)]
-pub struct Changes {
-    pub rem: PieceList,
-    pub add: PieceList,
-}
-
 impl Miner {
-    /// Before the first timestamp there are none. It takes its memory from `alloc`, and none yet.
+    /// Before the first timestamp there is nothing. It takes its memory from `alloc`, and none yet.
     pub fn new(alloc: Global) -> Miner
-        ensures pieces { result.standing ≡ [] }
+        ensures graph { result.graph ≡ empty_graph }
         ensures stamp { result.stamp ≡ 0 }
     {
         Miner {
-            standing: PieceList::new(alloc),
+            graph: Snapshot::new(alloc),
             stamp: Stamp(0),
         }
     }
 
-    /// Goes on to the next timestamp, at which the graph is this: lists its embeddings anew, which takes time
-    /// exponential in the size, and compares them with those that stood, each with each.
+    /// Goes on to the next timestamp, at which the graph is this, by this update. Tells what goes and what
+    /// comes there, if it is at most `most`.
     pub fn advance(
-        self,
+        &mut self,
         alloc: Global,
         program: &Program,
+        update: &Update,
         graph: &Snapshot,
-    ) -> Result<(Miner, Changes), NoMemory>
-        requires { self.stamp + 1 < 2 ^ 64 }
-        ensures { IfOk result (λ made. IsMined self program.now graph.now made.0 made.1) }
+        most: u32,
+    ) -> Result<Delta, NoMemory>
+        requires few { self.old.stamp + 1 < 2 ^ 64 }
+        requires steps { step self.old.graph update.now ≡ Ok graph.now }
+        ensures { IfOk result (IsMined self.old program.now graph.now most self.new) }
     {
-        let standing = embeddings(alloc, program, graph)?;
-        let changes = Changes {
-            rem: without(alloc, &self.standing, &standing)?,
-            add: without(alloc, &standing, &self.standing)?,
-        };
-        let stamp = Stamp(self.stamp.0 + 1);
-        Ok((Miner { standing, stamp }, changes))
+        let delta = delta_by(alloc, program, update, &self.graph, graph, most)?;
+        apply(&mut self.graph, update)?;
+        self.stamp = Stamp(self.stamp.0 + 1);
+        Ok(delta)
     }
 }
 
-impl Changes {
-    /// Whether there are more than `most`.
-    pub fn are_more_than(&self, most: u64) -> bool
-        ensures { result ≡ nat_lt most (change_count self.now) }
-    {
-        let removed = self.rem.len() as u64;
-        removed > most || self.add.len() as u64 > most - removed
+/// What goes and what comes by an update, which leads from one graph to the other.
+fn delta_by(
+    alloc: Global,
+    program: &Program,
+    update: &Update,
+    before: &Snapshot,
+    after: &Snapshot,
+    most: u32,
+) -> Result<Delta, NoMemory>
+    requires { step before.now update.now ≡ Ok after.now }
+    ensures { IfOk result (IsDelta (pattern_of program.now) before.now after.now most) }
+{
+    match program.mode() {
+        Mode::Vertex => delta_by_search(alloc, program, update, before, after, most),
+        Mode::Edge => delta_by_listing(alloc, program, before, after, most),
     }
+}
+
+/// The same for a program of vertices: searches from what the update changes.
+fn delta_by_search(
+    alloc: Global,
+    program: &Program,
+    update: &Update,
+    before: &Snapshot,
+    after: &Snapshot,
+    most: u32,
+) -> Result<Delta, NoMemory>
+    requires mode { program.now.mode ≡ mode.Vertex }
+    requires steps { step before.now update.now ≡ Ok after.now }
+    ensures { IfOk result (IsDelta (pattern_of program.now) before.now after.now most) }
+{
+    let net = net_of(alloc, before, update)?;
+    before.simple();
+    after.simple();
+    let mut view = TwoSnapshots::new(before, after);
+    match delta_of(alloc, program, &net, &mut view, most) {
+        Ok(delta) => Ok(delta),
+        Err(DeltaStop::NoMemory) => Err(NoMemory),
+        // Nothing in two snapshots is ever held.
+        Err(DeltaStop::Held(_)) => unreachable!(),
+    }
+}
+
+/// What goes and what comes from one graph to another, whatever differs between them: lists the embeddings
+/// of both, which takes time exponential in the size, and compares them, each with each.
+fn delta_by_listing(
+    alloc: Global,
+    program: &Program,
+    before: &Snapshot,
+    after: &Snapshot,
+    most: u32,
+) -> Result<Delta, NoMemory>
+    ensures { IfOk result (IsDelta (pattern_of program.now) before.now after.now most) }
+{
+    let stood = embeddings(alloc, program, before)?;
+    let stand = embeddings(alloc, program, after)?;
+    let rem = without(alloc, &stood, &stand)?;
+    let add = without(alloc, &stand, &stood)?;
+    if are_more_than(most, &rem, &add) {
+        return Ok(Delta::Over);
+    }
+    Ok(Delta::Listed { rem, add })
+}
+
+/// Whether there are more than `most` pieces in both lists.
+fn are_more_than(most: u32, rem: &PieceList, add: &PieceList) -> bool
+    ensures { result ≡ nat_lt most (length rem.now + length add.now) }
+{
+    let most = most as usize;
+    rem.len() > most || add.len() > most - rem.len()
 }

@@ -1,8 +1,7 @@
 -- What a line does to a job that is being read.
-use Rattle.std.specs.Prelude.{◌≡◌, ◌⊎◌, ℕ, List, Result, Ok, Err, IsOk}
+use Rattle.std.specs.Prelude.{◌≡◌, ◌⊎◌, ℕ, List, [], ◌∷◌, Result, Ok, Err, IsOk}
 use Rattle.graph_types.specs.meaning.Graph.{Graph}
 use Rattle.graph_types.specs.declared.update.Update.{Update}
-use Rattle.mining_model.specs.meaning.History.{Group}
 use Rattle.mining_model.specs.meaning.Step.{step}
 use Rattle.line_fields.specs.meaning.Names.{Names}
 use Rattle.update_reader.specs.meaning.Grammar.{LineContent, nothing, commit, update, too_many_labels, bad_line, content_of_line}
@@ -31,7 +30,7 @@ stage_of (Streaming s) = stage_of_stream s
 -- The answer to a line that is judged so. Memory may run out where `starves` holds.
 abbrev pub AnswersJudgement : Judgement → Type 0 → Result Taken JobFault → Type 0
 AnswersJudgement j starves (Ok (Moved job)) = j ≡ moved (stage_of job)
-AnswersJudgement j starves (Ok (Accepted stream)) = (us : Group) × (j ≡ accepted us (stage_of_stream stream))
+AnswersJudgement j starves (Ok (Accepted stream u)) = j ≡ accepted (u ∷ []) (stage_of_stream stream)
 AnswersJudgement j starves (Err (fault.Refused why)) = j ≡ refused why
 AnswersJudgement j starves (Err fault.NoMemory) = starves
 

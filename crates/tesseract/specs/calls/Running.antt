@@ -1,14 +1,12 @@
 -- What a run has read and written so far, and what it has when its job ends.
-use Rattle.std.specs.Prelude.{◌≡◌, ℕ, suc, ◌⊎◌, List, [], ◌∷◌, ◌++◌, IsTrue, false, Option, None, Some}
+use Rattle.std.specs.Prelude.{◌≡◌, ℕ, suc, ◌⊎◌, List, [], ◌∷◌, ◌++◌, IsTrue, false, Option}
 use Rattle.job_io.specs.calls.Ends.{BothKnown, PassesOn}
 use Rattle.job_io.specs.meaning.Lines.{Line, Reading, lines_of, whole_lines_of, GivesEnd, StopsInLine}
 use Rattle.tesseract.specs.declared.status.Status.{Status}
 use Rattle.tesseract.specs.declared.status.Status.TheVariants as status
 use Rattle.tesseract.specs.declared.limits.Limits.{Limits}
-use Rattle.graph_types.specs.meaning.Piece.{PieceValue, members_of_all}
-use Rattle.mining_model.specs.meaning.Embeddings.{Pattern, embeddings}
 use Rattle.job.specs.declared.fault.JobRefusal.{JobRefusal}
-use Rattle.job.specs.meaning.Judging.{Stage, pattern_at, graph_at_stage, refused, judgement, close_at, verdict}
+use Rattle.job.specs.meaning.Judging.{Stage, refused, judgement, close_at, verdict}
 use Rattle.tesseract.specs.meaning.Output.{output}
 use Rattle.tesseract.specs.meaning.Status.{status_of_end, status_of_refusal}
 use Rattle.tesseract.specs.calls.Progress.{all_mined, HasReached}
@@ -35,12 +33,6 @@ pub record AtLine (limits : Limits) (bytes is text : List ℕ) (reader : Reading
   pub lines : lines_of bytes ≡ gone ++ lines_of (reader.held ++ is)
   pub reached : HasReached limits gone text (all_mined reader.number stage t)
   pub whole : WholeSoFar bytes is gone reader ⊎ IsAfterLast is reader
-
--- These pieces are the embeddings of the graph at a stage. Before it is known what is mined for there are none.
-pub record StandsAt (stage : Stage) (standing : List PieceValue) : Type 0 where
-  pub known : (pattern : Pattern) → pattern_at stage ≡ Some pattern →
-      members_of_all standing ≡ embeddings pattern (graph_at_stage stage)
-  pub unknown : pattern_at stage ≡ None → standing ≡ []
 
 -- What a run has come to between two lines, since its source had left0 and its sink had written0.
 pub record IsRunning (limits : Limits) (left0 left written0 written : Option (List ℕ)) (page : List ℕ)

@@ -9,7 +9,7 @@ use Rattle.tesseract.proofs.mine.mine_lines.Goals as goal
 pub lines-init : goal.lines-init
 lines-init g c = (
   StandsBetween-start c.args.limits _ _ c.args.page.now c.in-Ok.reader _
-      c.requires.fresh c.in-Ok-new.ensures c.new-miner.ensures.pieces c.new-miner.ensures.stamp
+      c.requires.fresh c.in-Ok-new.ensures c.new-miner.ensures.graph c.new-miner.ensures.stamp
       c.in-Ok.ensures.line c.in-Ok.ensures.number c.in-Ok.ensures.most
       c.in-Ok.ensures.live c.in-Ok.ensures.held,
   omega arith,
