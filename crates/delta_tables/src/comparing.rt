@@ -1,0 +1,109 @@
+//! The search and the listing, on one graph after another.
+ghost use Rattle.std.specs.Prelude.{◌≡◌};
+ghost use Rattle.graph_types.specs.declared.ids.Mode.TheVariants as mode;
+ghost use Rattle.mining_model.specs.meaning.NetChange.{net_change};
+
+use crate::case::Case;
+use crate::draws::Draws;
+use crate::graphs::{build, change, draw_graph};
+use crate::outcome::{Change, Outcome, Sums};
+use delta_task::{Delta, DeltaStop, delta_of};
+use filter_polarity::Program;
+use graph_types::{Net, NoMemory, Piece, Snapshot, TwoSnapshots};
+use plain_miner::{embeddings, without};
+use std::alloc::Global;
+
+/// Compares the two on the graphs of a case, up to the first where they differ.
+pub fn compare_all(alloc: Global, case: Case, program: &Program) -> Result<Outcome, NoMemory>
+    requires { program.now.mode ≡ mode.Vertex }
+{
+    let mut sums = Sums::new();
+    for graph in case.first..case.first.saturating_add(case.graphs) {
+        match compare(alloc, case, graph, program)? {
+            Some(change) => sums.add(change),
+            None => return Ok(Outcome::Difference(graph)),
+        }
+    }
+    Ok(Outcome::Agreement(sums))
+}
+
+/// Compares the two on the graph with a number, which is built twice and changed once. `None` where they differ.
+fn compare(
+    alloc: Global,
+    case: Case,
+    graph: u32,
+    program: &Program,
+) -> Result<Option<Change>, NoMemory>
+    requires { program.now.mode ≡ mode.Vertex }
+{
+    let mut draws = Draws::new(graph);
+    let updates = draw_graph(alloc, &mut draws, case)?;
+    let before = build(alloc, &updates)?;
+    let mut after = build(alloc, &updates)?;
+    let window = change(alloc, &mut after, &mut draws, case)?;
+    compare_change(alloc, program, window.net(0), &before, &after, case.most)
+}
+
+/// Compares the two on a change, of which this is the net change.
+fn compare_change(
+    alloc: Global,
+    program: &Program,
+    net: &Net,
+    before: &Snapshot,
+    after: &Snapshot,
+    most: u32,
+) -> Result<Option<Change>, NoMemory>
+    requires mode { program.now.mode ≡ mode.Vertex }
+    requires net { net.now ≡ net_change before.now after.now }
+{
+    let was = embeddings(alloc, program, before)?;
+    let is = embeddings(alloc, program, after)?;
+    let gone = without(alloc, &was, &is)?;
+    let come = without(alloc, &is, &was)?;
+    let few = gone.len().saturating_add(come.len()) <= most as usize;
+    let delta = search(alloc, program, net, before, after, most)?;
+    if !agrees(&delta, &gone, &come, few) {
+        return Ok(None);
+    }
+    Ok(Some(Change {
+        members: net.vertices.len().saturating_add(net.edges.len()),
+        gone: gone.len(),
+        come: come.len(),
+        over: !few,
+    }))
+}
+
+/// What the search tells of a change, of which this is the net change.
+fn search(
+    alloc: Global,
+    program: &Program,
+    net: &Net,
+    before: &Snapshot,
+    after: &Snapshot,
+    most: u32,
+) -> Result<Delta, NoMemory>
+    requires mode { program.now.mode ≡ mode.Vertex }
+    requires net { net.now ≡ net_change before.now after.now }
+{
+    before.simple();
+    after.simple();
+    let mut view = TwoSnapshots::new(before, after);
+    match delta_of(alloc, program, net, &mut view, most) {
+        Ok(delta) => Ok(delta),
+        Err(DeltaStop::NoMemory) => Err(NoMemory),
+        // Nothing in two snapshots is ever held.
+        Err(DeltaStop::Held(_)) => unreachable!(),
+    }
+}
+
+/// Whether just these pieces are listed where they are few, and it is told that there are more where they aren't.
+fn agrees(delta: &Delta, gone: &[Piece], come: &[Piece], few: bool) -> bool {
+    match delta {
+        Delta::Listed { rem, add } => few && are_same(rem, gone) && are_same(add, come),
+        Delta::Over => !few,
+    }
+}
+
+fn are_same(pieces: &[Piece], others: &[Piece]) -> bool {
+    pieces == others
+}
