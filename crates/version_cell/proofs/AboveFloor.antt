@@ -11,12 +11,12 @@ use Rattle.version_cell.specs.meaning.Changes.{IsAfterLast, Track, changes_after
 use Rattle.version_cell.specs.meaning.Floor.{AscendAbove, IsAboveFloor}
 
 -- one change more, after the others
-AscendAbove-with_change : (f : ℕ) (changes : List Change) (change : Change) → AscendAbove f changes → f < change.at → IsAfterLast changes change.at → AscendAbove f (changes ++ change ∷ [])
+pub AscendAbove-with_change : (f : ℕ) (changes : List Change) (change : Change) → AscendAbove f changes → f < change.at → IsAfterLast changes change.at → AscendAbove f (changes ++ change ∷ [])
 AscendAbove-with_change f [] change ascend above after = (above, tt)
 AscendAbove-with_change f (first ∷ later) change ascend above after = (ascend.0, AscendAbove-with_change first.at later change ascend.1 after.0 after.1)
 
 -- those that come after a later timestamp
-AscendAbove-after : (f t : ℕ) (changes : List Change) → f ≤ t → AscendAbove f changes → AscendAbove t (changes_after changes t)
+pub AscendAbove-after : (f t : ℕ) (changes : List Change) → f ≤ t → AscendAbove f changes → AscendAbove t (changes_after changes t)
 AscendAbove-after f t [] above ascend = tt
 AscendAbove-after f t (change ∷ later) above ascend =
     elim (nat_le change.at t) as (λ b. nat_le change.at t ≡ b → AscendAbove t (cond b (changes_after later t) (change ∷ later))) [

@@ -68,6 +68,13 @@ impl Cell {
         }
     }
 
+    /// The timestamp up to which changes are taken up.
+    pub fn floor(&self) -> Stamp
+        ensures { result ≡ self.now.floor }
+    {
+        self.floor
+    }
+
     /// Makes the next change of the label one that takes no memory. Out of memory leaves the versions.
     pub fn reserve_label(&mut self) -> Result<(), NoMemory>
         ensures kept { KeepsVersions self.old self.new }
@@ -110,6 +117,7 @@ impl Cell {
         };
         changes.push(Change { at, label });
     }
+
     /// What the vertex has before and after a timestamp above the floor: its label, and its neighbours,
     /// ascending, each joined with it before or after. Takes time linear in the number of places, each with
     /// a look-up among the changed neighbours, and in the number of changes up to then. Only the answer takes

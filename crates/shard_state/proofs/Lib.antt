@@ -1,0 +1,15 @@
+pub mod KnownMaps
+pub mod Knowing
+pub mod CellEntries
+pub mod CellSteps
+pub mod Noting
+pub mod Histories
+pub mod Storing
+pub mod Pruning
+pub mod PairsTold
+pub mod Joined
+pub mod GroupChanges
+pub mod Told
+pub mod NotingEach
+pub mod StoredEntries
+pub mod GroupsTogether
