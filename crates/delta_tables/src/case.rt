@@ -1,6 +1,6 @@
 use crate::comparing::compare_all;
 use filter_polarity::Program;
-use graph_types::{Mode, NoMemory};
+use graph_types::NoMemory;
 use job_io::{ByteList, LineList};
 use line_fields::Names;
 use program_grammar::{ProgramFault, read_program};
@@ -39,12 +39,9 @@ pub fn answer(alloc: Global, line: &str) -> Result<String, AllocError> {
 }
 
 fn answer_program(alloc: Global, case: Case, program: &Program) -> Result<String, AllocError> {
-    match program.mode() {
-        Mode::Edge => String::from_str(alloc, "no program of vertices"),
-        Mode::Vertex => match compare_all(alloc, case, program) {
-            Ok(outcome) => outcome.text(alloc),
-            Err(NoMemory) => String::from_str(alloc, "out of memory"),
-        },
+    match compare_all(alloc, case, program) {
+        Ok(outcome) => outcome.text(alloc),
+        Err(NoMemory) => String::from_str(alloc, "out of memory"),
     }
 }
 

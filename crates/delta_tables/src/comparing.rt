@@ -1,22 +1,19 @@
 //! The search and the listing, on one graph after another.
 ghost use Rattle.std.specs.Prelude.{◌≡◌};
-ghost use Rattle.graph_types.specs.declared.ids.Mode.TheVariants as mode;
 ghost use Rattle.mining_model.specs.meaning.NetChange.{net_change};
 
 use crate::case::Case;
 use crate::draws::Draws;
 use crate::graphs::{build, change, draw_graph};
 use crate::outcome::{Change, Outcome, Sums};
-use delta_task::{Delta, DeltaStop, delta_of};
+use delta_task::{Delta, DeltaStop, DeltaTurn, DeltaWalk, delta_of};
 use filter_polarity::Program;
 use graph_types::{Net, NoMemory, Piece, Snapshot, TwoSnapshots};
 use plain_miner::{embeddings, without};
 use std::alloc::Global;
 
 /// Compares the two on the graphs of a case, up to the first where they differ.
-pub fn compare_all(alloc: Global, case: Case, program: &Program) -> Result<Outcome, NoMemory>
-    requires { program.now.mode ≡ mode.Vertex }
-{
+pub fn compare_all(alloc: Global, case: Case, program: &Program) -> Result<Outcome, NoMemory> {
     let mut sums = Sums::new();
     for graph in case.first..case.first.saturating_add(case.graphs) {
         match compare(alloc, case, graph, program)? {
@@ -33,9 +30,7 @@ fn compare(
     case: Case,
     graph: u32,
     program: &Program,
-) -> Result<Option<Change>, NoMemory>
-    requires { program.now.mode ≡ mode.Vertex }
-{
+) -> Result<Option<Change>, NoMemory> {
     let mut draws = Draws::new(graph);
     let updates = draw_graph(alloc, &mut draws, case)?;
     let before = build(alloc, &updates)?;
@@ -53,8 +48,7 @@ fn compare_change(
     after: &Snapshot,
     most: u32,
 ) -> Result<Option<Change>, NoMemory>
-    requires mode { program.now.mode ≡ mode.Vertex }
-    requires net { net.now ≡ net_change before.now after.now }
+    requires { net.now ≡ net_change before.now after.now }
 {
     let was = embeddings(alloc, program, before)?;
     let is = embeddings(alloc, program, after)?;
@@ -62,7 +56,8 @@ fn compare_change(
     let come = without(alloc, &is, &was)?;
     let few = gone.len().saturating_add(come.len()) <= most as usize;
     let delta = search(alloc, program, net, before, after, most)?;
-    if !agrees(&delta, &gone, &come, few) {
+    let in_turns = search_in_turns(alloc, program, net, before, after, most)?;
+    if !agrees(&delta, &gone, &come, few) || !agrees(&in_turns, &gone, &come, few) {
         return Ok(None);
     }
     Ok(Some(Change {
@@ -82,8 +77,7 @@ fn search(
     after: &Snapshot,
     most: u32,
 ) -> Result<Delta, NoMemory>
-    requires mode { program.now.mode ≡ mode.Vertex }
-    requires net { net.now ≡ net_change before.now after.now }
+    requires { net.now ≡ net_change before.now after.now }
 {
     before.simple();
     after.simple();
@@ -93,6 +87,32 @@ fn search(
         Err(DeltaStop::NoMemory) => Err(NoMemory),
         // Nothing in two snapshots is ever held.
         Err(DeltaStop::Held(_)) => unreachable!(),
+    }
+}
+
+/// What the search tells of the change where it rests after each read.
+fn search_in_turns(
+    alloc: Global,
+    program: &Program,
+    net: &Net,
+    before: &Snapshot,
+    after: &Snapshot,
+    most: u32,
+) -> Result<Delta, NoMemory>
+    requires { net.now ≡ net_change before.now after.now }
+{
+    before.simple();
+    after.simple();
+    let mut view = TwoSnapshots::new(before, after);
+    let mut walk = DeltaWalk::new(alloc, program, net, most)?;
+    loop {
+        match walk.turn(alloc, program, &mut view, 1) {
+            Ok(DeltaTurn::More) => {}
+            Ok(DeltaTurn::Ready(delta)) => return Ok(delta),
+            Err(DeltaStop::NoMemory) => return Err(NoMemory),
+            // Nothing in two snapshots is ever held.
+            Err(DeltaStop::Held(_)) => unreachable!(),
+        }
     }
 }
 

@@ -2,3 +2,4 @@
 pub mod Finding
 pub mod Sorting
 pub mod Deltas
+pub mod Walking

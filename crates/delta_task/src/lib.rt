@@ -4,7 +4,9 @@
 mod catching;
 mod delta;
 mod finding;
+mod walking;
 
 pub use catching::{DeltaCatch, DeltaNote};
 pub use delta::{Delta, DeltaStop, delta_of};
 pub use finding::{FindStop, finds_of};
+pub use walking::{DeltaTurn, DeltaWalk};

@@ -3,7 +3,6 @@ pub mod Leading
 pub mod Going
 pub mod Turning
 mod Stepping
-mod Deltas
 mod Nothing
 mod Commands
 mod Jobs

@@ -1,5 +1,4 @@
-ghost use Rattle.std.specs.Prelude.{◌≡◌, ◌+◌, ◌<◌, ◌^◌, IfOk, length, nat_lt};
-ghost use Rattle.graph_types.specs.declared.ids.Mode.TheVariants as mode;
+ghost use Rattle.std.specs.Prelude.{◌≡◌, ◌+◌, ◌<◌, ◌^◌, IfOk};
 ghost use Rattle.graph_types.specs.meaning.Graph.{empty_graph};
 ghost use Rattle.mining_model.specs.meaning.Step.{step};
 ghost use Rattle.cond_eval.specs.meaning.Patterns.{pattern_of};
@@ -8,8 +7,7 @@ ghost use Rattle.tesseract.specs.calls.Miner.{IsMined};
 
 use delta_task::{Delta, DeltaStop, delta_of};
 use filter_polarity::Program;
-use graph_types::{Mode, NoMemory, PieceList, Snapshot, Stamp, TwoSnapshots, Update};
-use plain_miner::{embeddings, without};
+use graph_types::{NoMemory, Snapshot, Stamp, TwoSnapshots, Update};
 use std::alloc::Global;
 use update_rules::{apply, net_of};
 
@@ -53,7 +51,7 @@ impl Miner {
     }
 }
 
-/// What goes and what comes by an update, which leads from one graph to the other.
+/// What goes and what comes by an update, which leads from one graph to the other: searches from what it changes.
 fn delta_by(
     alloc: Global,
     program: &Program,
@@ -63,25 +61,6 @@ fn delta_by(
     most: u32,
 ) -> Result<Delta, NoMemory>
     requires { step before.now update.now ≡ Ok after.now }
-    ensures { IfOk result (IsDelta (pattern_of program.now) before.now after.now most) }
-{
-    match program.mode() {
-        Mode::Vertex => delta_by_search(alloc, program, update, before, after, most),
-        Mode::Edge => delta_by_listing(alloc, program, before, after, most),
-    }
-}
-
-/// The same for a program of vertices: searches from what the update changes.
-fn delta_by_search(
-    alloc: Global,
-    program: &Program,
-    update: &Update,
-    before: &Snapshot,
-    after: &Snapshot,
-    most: u32,
-) -> Result<Delta, NoMemory>
-    requires mode { program.now.mode ≡ mode.Vertex }
-    requires steps { step before.now update.now ≡ Ok after.now }
     ensures { IfOk result (IsDelta (pattern_of program.now) before.now after.now most) }
 {
     let net = net_of(alloc, before, update)?;
@@ -94,33 +73,4 @@ fn delta_by_search(
         // Nothing in two snapshots is ever held.
         Err(DeltaStop::Held(_)) => unreachable!(),
     }
-}
-
-/// What goes and what comes from one graph to another, whatever differs between them: lists the embeddings
-/// of both, which takes time exponential in the size, and compares them, each with each.
-fn delta_by_listing(
-    alloc: Global,
-    program: &Program,
-    before: &Snapshot,
-    after: &Snapshot,
-    most: u32,
-) -> Result<Delta, NoMemory>
-    ensures { IfOk result (IsDelta (pattern_of program.now) before.now after.now most) }
-{
-    let stood = embeddings(alloc, program, before)?;
-    let stand = embeddings(alloc, program, after)?;
-    let rem = without(alloc, &stood, &stand)?;
-    let add = without(alloc, &stand, &stood)?;
-    if are_more_than(most, &rem, &add) {
-        return Ok(Delta::Over);
-    }
-    Ok(Delta::Listed { rem, add })
-}
-
-/// Whether there are more than `most` pieces in both lists.
-fn are_more_than(most: u32, rem: &PieceList, add: &PieceList) -> bool
-    ensures { result ≡ nat_lt most (length rem.now + length add.now) }
-{
-    let most = most as usize;
-    rem.len() > most || add.len() > most - rem.len()
 }

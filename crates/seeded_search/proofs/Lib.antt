@@ -1,0 +1,17 @@
+pub mod Sets
+pub mod Levels
+pub mod Beginning
+pub mod Searching
+pub mod Adjacent
+pub mod ElementPieces
+pub mod Spaces
+pub mod Apart
+pub mod Tried
+pub mod NearPieces
+pub mod Finding
+pub mod Noting
+pub mod Turning
+pub mod Judged
+pub mod WholeSearch
+pub mod Dropping
+pub mod Spending
