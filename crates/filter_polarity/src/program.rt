@@ -2,25 +2,32 @@ ghost use Rattle.std.specs.Prelude.{◌≡◌, ◌≤◌};
 ghost use Rattle.graph_types.specs.meaning.Piece.{most_members};
 ghost use Rattle.filter_polarity.specs.meaning.Program.{IsProgram};
 ghost use Rattle.conditions.specs.meaning.Written.{IsWithinLimits};
+ghost use Rattle.shape_bounds.specs.meaning.Outcomes.{outcome_of};
 
 use crate::falling_cond::Falling;
 use conditions::Cond;
 use graph_types::Mode;
+use shape_bounds::{Outcome, Outlook};
 use std::marker::Model;
 
 /// What to mine: pieces of one mode, up to a size, with a filter that every picture on the way has to pass
 /// and a condition that the pieces to be told have to match.
+///
+/// It keeps what the numbers of vertices and edges alone say of both, so that a search need not ask the conditions.
 #[derive(Debug, Drop)]
 pub struct Program {
     size: u8,
     filter: Falling,
     matching: Cond,
+    filter_outlook: Outlook,
+    matching_outlook: Outlook,
 }
 
 impl Model for Program {
     ghost use Rattle.std.specs.Coded.{codes};
     ghost use Rattle.conditions.specs.contracts.condition.Cond as conditions;
-    ghost use Rattle.filter_polarity.specs.meaning.Program.{ProgramValue, IsProgram};
+    ghost use Rattle.filter_polarity.specs.meaning.Program.{ProgramValue};
+    ghost use Rattle.filter_polarity.specs.storage.Foresight.{IsForeseen};
 
     ghost Value = { ProgramValue };
 
@@ -33,16 +40,17 @@ impl Model for Program {
       matching = p.matching;
     } };
 
-    ghost invariant = { λ p. IsProgram (record {
+    ghost invariant = { λ p. IsForeseen (record {
       mode = p.filter.mode;
       size = p.size;
       filter = p.filter.cond;
       matching = p.matching;
-    }) };
+    }) p.filter_outlook p.matching_outlook };
 }
 
 impl Program {
-    /// The program that mines in the filter's mode. `size` counts members.
+    /// The program that mines in the filter's mode. `size` counts members. Takes time linear in the size of the
+    /// conditions, some hundred times.
     pub fn new(size: u8, filter: Falling, matching: Cond) -> Program
         requires some_member { 1 ≤ size }
         requires few_members { size ≤ most_members }
@@ -56,11 +64,14 @@ impl Program {
         } }
     {
         // By this call the filter tells that it falls.
-        let _ = filter.cond();
+        let filter_outlook = Outlook::of(filter.cond());
+        let matching_outlook = Outlook::of(&matching);
         Program {
             size,
             filter,
             matching,
+            filter_outlook,
+            matching_outlook,
         }
     }
 
@@ -95,5 +106,24 @@ impl Program {
         ensures program { IsProgram self.now }
     {
         &self.matching
+    }
+
+    /// What the filter is of each simple graph with so many vertices and edges, in constant time.
+    pub fn filter_outcome(&self, vertices: usize, edges: usize) -> Outcome
+        requires few_vertices { vertices ≤ 9 }
+        requires few_edges { edges ≤ 36 }
+        ensures { result ≡ outcome_of self.now.filter vertices edges }
+    {
+        self.filter_outlook.outcome(vertices, edges)
+    }
+
+    /// What the condition of the pieces that are told is of each simple graph with so many vertices and edges, in
+    /// constant time.
+    pub fn matching_outcome(&self, vertices: usize, edges: usize) -> Outcome
+        requires few_vertices { vertices ≤ 9 }
+        requires few_edges { edges ≤ 36 }
+        ensures { result ≡ outcome_of self.now.matching vertices edges }
+    {
+        self.matching_outlook.outcome(vertices, edges)
     }
 }

@@ -1,5 +1,5 @@
 -- What a condition says of a simple graph is one of the outcomes that its numbers of vertices and edges leave.
-use Rattle.std.proofs.Common.{◌≡◌, ◌≤◌, ◌*◌, ℕ, Bool, true, false, not, ◌&&◌, ◌||◌, IsTrue, List, [], ◌∷◌, length, refl, sym, subst, ◌∙◌, ◌⊎◌, inl, inr, ⊎_elim, arith, mul-le-mul_left}
+use Rattle.std.proofs.Common.{◌≡◌, ◌≤◌, ◌*◌, ℕ, Bool, true, false, not, ◌&&◌, ◌||◌, IsTrue, List, [], ◌∷◌, length, cond, refl, sym, ap, subst, ◌∙◌, ◌⊎◌, inl, inr, ⊎_elim, arith, mul-le-mul_left}
 use Rattle.std.proofs.lemmas.Bool.{and_parts, and_from, false_from_ne_true, false≢true, or_cases, or_left, or_right}
 use Rattle.std.proofs.lemmas.List.Sums.{sum_by-cons}
 use Rattle.graph_types.specs.meaning.Graph.{Graph, edges_of, vertices_of}
@@ -13,7 +13,9 @@ use Rattle.conditions.specs.meaning.Conditions.{holds, holds_by, sum_value}
 use Rattle.conditions.specs.meaning.Counts.{term_count}
 use Rattle.conditions.proofs.Forms.{by_form, fold-form, of_form}
 use Rattle.shape_bounds.specs.meaning.Bounds.{least_count, least_value, most_count, most_value, value_by}
-use Rattle.shape_bounds.specs.meaning.Outcomes.{Outcomes, may_fail, may_hold, opposite, outcomes, outcomes_by}
+use Rattle.shape_bounds.specs.declared.outcome.Outcome.{Outcome}
+use Rattle.shape_bounds.specs.declared.outcome.Outcome.TheVariants as outcome
+use Rattle.shape_bounds.specs.meaning.Outcomes.{Outcomes, may_fail, may_hold, opposite, outcome_of, outcomes, outcomes_by}
 use Rattle.shape_bounds.proofs.Comparing.{holds_between, opposite-is}
 use Rattle.shape_bounds.proofs.Terms.{least_count-le, most_count-le}
 
@@ -24,6 +26,28 @@ value_by-le few many more (f ∷ sum) =
     let here = mul-le-mul_left f.times (more f.term) in
     let rest = value_by-le few many more sum in
     omega (arith, here, rest, sum_by-cons (λ (e : Factor). e.times * few e.term) f sum, sum_by-cons (λ (e : Factor). e.times * many e.term) f sum)
+
+-- what an outcome says of both
+
+abbrev is_holds : Outcome → Bool
+is_holds outcome.Holds = true
+is_holds outcome.Fails = false
+is_holds outcome.Open = false
+
+abbrev is_fails : Outcome → Bool
+is_fails outcome.Fails = true
+is_fails outcome.Holds = false
+is_fails outcome.Open = false
+
+cannot_fail : (h f : Bool) → cond h (cond f outcome.Open outcome.Holds) outcome.Fails ≡ outcome.Holds → f ≡ false
+cannot_fail true true is = absurd (false≢true (ap is_holds is))
+cannot_fail true false is = refl
+cannot_fail false f is = absurd (false≢true (ap is_holds is))
+
+cannot_hold : (h f : Bool) → cond h (cond f outcome.Open outcome.Holds) outcome.Fails ≡ outcome.Fails → h ≡ false
+cannot_hold true true is = absurd (false≢true (ap is_fails is))
+cannot_hold true false is = absurd (false≢true (ap is_fails is))
+cannot_hold false f is = refl
 
 -- at each form
 
@@ -105,3 +129,14 @@ module _ (g : Graph) (simple : IsSimple g) where
   -- the way in which a search uses it: what can't hold by these numbers doesn't
   pub fails_where_cannot_hold : (c : Cond) → may_hold c n m ≡ false → holds c g ≡ false
   fails_where_cannot_hold c refused = false_from_ne_true (holds c g) (λ h. false≢true (sym refused ∙ may_hold_where_holds c h))
+
+  -- the numbers tell what the condition is
+  pub outcome-fails : (c : Cond) → outcome_of c n m ≡ outcome.Fails → holds c g ≡ false
+  outcome-fails c is = fails_where_cannot_hold c (cannot_hold (may_hold c n m) (may_fail c n m) is)
+
+  pub outcome-holds : (c : Cond) → outcome_of c n m ≡ outcome.Holds → IsTrue (holds c g)
+  outcome-holds c is =
+      elim (holds c g) as (λ b. holds c g ≡ b → IsTrue b) [
+        | true ↦ λ _. refl
+        | false ↦ λ fails. absurd (false≢true (sym (cannot_fail (may_hold c n m) (may_fail c n m) is) ∙ may_fail_where_fails c (ap not fails)))
+      ] refl

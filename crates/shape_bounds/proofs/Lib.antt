@@ -1,3 +1,4 @@
 pub mod Terms
 pub mod Comparing
 pub mod Deciding
+pub mod Places

@@ -1,6 +1,6 @@
 //! What the numbers of vertices and edges say of a graph: each law is the contract of a function that does nothing.
 
-ghost use Rattle.std.specs.Prelude.{ℕ, ◌≡◌, ◌≤◌, ◌↔◌, IsTrue, length, not};
+ghost use Rattle.std.specs.Prelude.{ℕ, ◌≡◌, ◌≤◌, ◌↔◌, IsTrue, false, length, not};
 ghost use Rattle.graph_types.specs.meaning.Graph.{Graph, edges_of, vertices_of};
 ghost use Rattle.graph_types.specs.meaning.Simple.{IsSimple};
 ghost use Rattle.conditions.specs.declared.condition.Cond.{Cond};
@@ -9,7 +9,8 @@ ghost use Rattle.conditions.specs.declared.condition.Term.{Term};
 ghost use Rattle.conditions.specs.meaning.Conditions.{comparison_holds, holds};
 ghost use Rattle.conditions.specs.meaning.Counts.{term_count};
 ghost use Rattle.shape_bounds.specs.meaning.Bounds.{least_count, most_count};
-ghost use Rattle.shape_bounds.specs.meaning.Outcomes.{ComparesWithin, comparison_may_hold, may_fail, may_hold, opposite};
+ghost use Rattle.shape_bounds.specs.declared.outcome.Outcome.TheVariants as outcome;
+ghost use Rattle.shape_bounds.specs.meaning.Outcomes.{ComparesWithin, comparison_may_hold, may_fail, may_hold, opposite, outcome_of};
 
 /// What a condition says of a simple graph is one of the outcomes that its numbers of vertices and edges leave.
 pub fn shapes_bound_conditions()
@@ -17,6 +18,14 @@ pub fn shapes_bound_conditions()
         IsTrue (holds c g) → IsTrue (may_hold c (length (vertices_of g)) (length (edges_of g))) }
     ensures fails { (c : Cond) (g : Graph) → IsSimple g →
         IsTrue (not (holds c g)) → IsTrue (may_fail c (length (vertices_of g)) (length (edges_of g))) }
+{}
+
+/// Where the numbers of vertices and edges tell what a condition is, it is that of each simple graph that has so many.
+pub fn outcomes_tell()
+    ensures holds { (c : Cond) (g : Graph) → IsSimple g →
+        outcome_of c (length (vertices_of g)) (length (edges_of g)) ≡ outcome.Holds → IsTrue (holds c g) }
+    ensures fails { (c : Cond) (g : Graph) → IsSimple g →
+        outcome_of c (length (vertices_of g)) (length (edges_of g)) ≡ outcome.Fails → holds c g ≡ false }
 {}
 
 /// What a term counts in a simple graph lies between the bounds that its numbers of vertices and edges give.

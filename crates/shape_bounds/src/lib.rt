@@ -3,6 +3,8 @@
 
 pub mod laws;
 mod outcome;
+mod outlook;
 mod sums;
 
-pub use outcome::{may_fail, may_hold};
+pub use outcome::{Outcome, may_fail, may_hold, outcome_of};
+pub use outlook::Outlook;

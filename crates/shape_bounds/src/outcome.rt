@@ -1,9 +1,34 @@
 ghost use Rattle.std.specs.Prelude.{◌≡◌, ◌≤◌, IsTrue};
 ghost use Rattle.conditions.specs.meaning.Written.{are_numbers_within};
-ghost use Rattle.shape_bounds.specs.meaning.Outcomes.{comparison_may_hold, may_fail, may_hold, opposite};
+ghost use Rattle.shape_bounds.specs.meaning.Outcomes.{comparison_may_hold, may_fail, may_hold, opposite, outcome_of};
 
 use crate::sums::{Bounds, sum_bounds};
 use conditions::{Cond, Op};
+
+/// What a condition is of all simple graphs with so many vertices and edges.
+#[derive(Clone, Copy, Debug, PartialEq, Eq)]
+pub enum Outcome {
+    Holds,
+    Fails,
+    /// Their numbers alone don't tell.
+    Open,
+}
+
+/// What a condition is of the simple graphs with so many vertices and edges, as far as `may_hold` and `may_fail` tell.
+pub fn outcome_of(cond: &Cond, vertices: u32, edges: u32) -> Outcome
+    requires few_vertices { vertices ≤ 9 }
+    requires few_edges { edges ≤ 36 }
+    requires within { IsTrue (are_numbers_within cond.now) }
+    ensures { result ≡ outcome_of cond.now vertices edges }
+{
+    if !may_hold(cond, vertices, edges) {
+        Outcome::Fails
+    } else if may_fail(cond, vertices, edges) {
+        Outcome::Open
+    } else {
+        Outcome::Holds
+    }
+}
 
 /// Whether a condition may hold of a simple graph with so many vertices and edges, by the condition's form and by what
 /// its terms count at least and at most. Where it says no, the condition holds of none of them; where it says yes, it

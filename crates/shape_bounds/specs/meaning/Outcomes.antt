@@ -1,11 +1,13 @@
 -- Whether a condition may hold of a simple graph of which only the numbers of vertices and edges are known, and
 -- whether it may fail.
-use Rattle.std.specs.Prelude.{ℕ, ◌≤◌, Bool, true, false, not, ◌&&◌, ◌||◌, IsTrue, eqb, nat_lt, nat_le}
+use Rattle.std.specs.Prelude.{ℕ, ◌≤◌, Bool, true, false, not, ◌&&◌, ◌||◌, IsTrue, eqb, nat_lt, nat_le, if◌then◌else◌}
 use Rattle.conditions.specs.declared.condition.Cond.{Cond, fold-Cond}
 use Rattle.conditions.specs.declared.condition.Cond.TheOpen.{Cond-F, True, False, Compare, Not, And, Or}
 use Rattle.conditions.specs.declared.condition.Op.{Op}
 use Rattle.conditions.specs.declared.condition.Op.TheVariants.{AtMost, Below, AtLeast, Above, Equal, Unequal}
 use Rattle.conditions.specs.meaning.Conditions.{comparison_holds}
+use Rattle.shape_bounds.specs.declared.outcome.Outcome.{Outcome}
+use Rattle.shape_bounds.specs.declared.outcome.Outcome.TheVariants as outcome
 use Rattle.shape_bounds.specs.meaning.Bounds.{least_value, most_value}
 
 -- some number from the least to the most compares with the bound as the word says
@@ -59,3 +61,9 @@ may_hold c vertices edges = (outcomes c vertices edges).can_hold
 
 abbrev pub may_fail : Cond → ℕ → ℕ → Bool
 may_fail c vertices edges = (outcomes c vertices edges).can_fail
+
+-- What a condition is of all simple graphs with so many vertices and edges: it fails of each where it may not hold, it
+-- holds of each where it may not fail, and else their numbers don't tell.
+abbrev pub outcome_of : Cond → ℕ → ℕ → Outcome
+outcome_of c vertices edges =
+    if may_hold c vertices edges then (if may_fail c vertices edges then outcome.Open else outcome.Holds) else outcome.Fails
