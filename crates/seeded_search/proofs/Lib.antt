@@ -15,3 +15,4 @@ pub mod Judged
 pub mod WholeSearch
 pub mod Dropping
 pub mod Spending
+pub mod ByShape
