@@ -1,0 +1,4 @@
+pub mod Ascent
+pub mod Asking
+pub mod CellSteps
+pub mod EmptyShards

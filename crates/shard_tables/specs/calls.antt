@@ -1,0 +1,4 @@
+-- What is true between the calls.
+pub mod Building
+pub mod Asking
+pub mod CellSteps
