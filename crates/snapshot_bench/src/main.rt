@@ -5,13 +5,11 @@
 //! What was done goes to standard output, and the times to standard error.
 #![tactic(auto)]
 
-mod stream;
-
-use graph_types::{LabelId, Snapshot, Update};
+use bench_streams::{Stream, Words};
+use graph_types::{Snapshot, Update};
 use std::alloc::{AllocError, Global};
 use std::time::Instant;
 use std::{env, io};
-use stream::{Ids, Shape, Stream};
 use update_rules::{StepFault, step};
 
 /// How many updates were accepted and refused.
@@ -40,66 +38,16 @@ impl Tally {
     }
 }
 
-/// The vertices, and then the edges.
-fn build(graph: &mut Snapshot, stream: Stream, edges: u64) -> Result<Tally, AllocError> {
-    let mut tally = Tally::new();
-    for place in 0..stream.vertices {
-        let id = stream.id(place);
-        let label = LabelId(place % 5);
-        tally.make(graph, &Update::AddVertex { id, label })?;
-    }
-    for number in 0..edges {
-        let (from, to) = stream.ends(number);
-        let label = LabelId(1);
-        tally.make(graph, &Update::AddEdge { from, to, label })?;
-    }
-    Ok(tally)
-}
-
-/// The update of one step of a churn over the latest `edges` edges. Of a hundred steps 48 take the
-/// oldest edge out, 48 put a new one in, two set a label, and two take a vertex out and put it back.
-fn churn_step(stream: Stream, edges: u64, number: u64) -> Update {
-    let label = LabelId(2);
-    let (round, kind) = (number / 100, number % 100);
-    match kind {
-        96 => Update::LabelVertex {
-            id: stream.draw(number),
-            label,
-        },
-        97 => {
-            let window = round.wrapping_mul(48).wrapping_add(edges / 2);
-            let (from, to) = stream.ends(window);
-            Update::LabelEdge { from, to, label }
-        }
-        98 => Update::RemoveVertex {
-            id: stream.draw(round),
-        },
-        99 => Update::AddVertex {
-            id: stream.draw(round),
-            label,
-        },
-        _ => {
-            let oldest = round.wrapping_mul(48).wrapping_add(kind / 2);
-            if kind % 2 == 0 {
-                let (from, to) = stream.ends(oldest);
-                Update::RemoveEdge { from, to }
-            } else {
-                let (from, to) = stream.ends(oldest.wrapping_add(edges));
-                Update::AddEdge { from, to, label }
-            }
-        }
-    }
-}
-
-fn churn(
+/// Makes the updates of the stream with these numbers.
+fn make_each(
     graph: &mut Snapshot,
     stream: Stream,
-    edges: u64,
-    steps: u64,
+    from: u64,
+    to: u64,
 ) -> Result<Tally, AllocError> {
     let mut tally = Tally::new();
-    for number in 0..steps {
-        tally.make(graph, &churn_step(stream, edges, number))?;
+    for number in from..to {
+        tally.make(graph, &stream.update(number))?;
     }
     Ok(tally)
 }
@@ -116,40 +64,6 @@ fn look(alloc: Global, graph: &Snapshot, stream: Stream, steps: u64) -> Result<u
     Ok(neighbours)
 }
 
-#[derive(Drop)]
-struct Words {
-    stream: Stream,
-    edges: u64,
-    steps: u64,
-}
-
-fn read_words(words: &[String]) -> Option<Words> {
-    let [shape, ids, vertices, edges, steps] = words else {
-        return None;
-    };
-    let shape = match shape.as_str() {
-        "power" => Shape::Power,
-        "star" => Shape::Star,
-        _ => return None,
-    };
-    let ids = match ids.as_str() {
-        "scattered" => Ids::Scattered,
-        "descending" => Ids::Descending,
-        "multiples" => Ids::Multiples,
-        _ => return None,
-    };
-    let vertices = vertices.parse::<u32>().ok()?;
-    Some(Words {
-        stream: Stream {
-            shape,
-            ids,
-            vertices,
-        },
-        edges: edges.parse::<u64>().ok()?,
-        steps: steps.parse::<u64>().ok()?,
-    })
-}
-
 /// What was done, and how long each part took in nanoseconds.
 #[derive(Clone, Copy)]
 struct Done {
@@ -162,13 +76,15 @@ struct Done {
 fn work(rt: &HostRuntime, words: &Words) -> io::Result<Done> {
     let mut graph = Snapshot::new(rt.alloc());
     let start = Instant::now(rt)?;
-    let built = build(&mut graph, words.stream, words.edges)?;
+    let begun = words.stream.building();
+    let built = make_each(&mut graph, words.stream, 0, begun)?;
     let build_time = start.elapsed(rt)?.as_nanos();
     let start = Instant::now(rt)?;
-    let changed = churn(&mut graph, words.stream, words.edges, words.steps)?;
+    let end = begun + u64::from(words.steps);
+    let changed = make_each(&mut graph, words.stream, begun, end)?;
     let churn_time = start.elapsed(rt)?.as_nanos();
     let start = Instant::now(rt)?;
-    let neighbours = look(rt.alloc(), &graph, words.stream, words.steps)?;
+    let neighbours = look(rt.alloc(), &graph, words.stream, u64::from(words.steps))?;
     let look_time = start.elapsed(rt)?.as_nanos();
     Ok(Done {
         built,
@@ -180,7 +96,7 @@ fn work(rt: &HostRuntime, words: &Words) -> io::Result<Done> {
 
 fn main(rt: HostRuntime) -> io::Result<()> {
     let words: Vec<String> = env::args(&rt)?.skip(1).collect(rt.alloc())?;
-    let Some(words) = read_words(&words) else {
+    let Some(words) = Words::read(&words) else {
         return eprintln!(rt;
             "words: power|star scattered|descending|multiples VERTICES EDGES STEPS"
         );
