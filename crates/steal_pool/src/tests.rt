@@ -154,22 +154,24 @@ fn feed_and_shut<R: Wait>(rt: &R, mut feed: Feed<Job>, count: u32, rests: u8) ->
     feed
 }
 
-// So many turns of each thief, once the tasks are fed: the answers, and what is settled.
+// So many turns of each thief, once the tasks are fed, of which the first is put back so many times: the
+// answers, and what is settled.
 fn run_turns<R: Wait>(
     rt: &R,
     alloc: Global,
     thieves: u32,
-    rests: [u8; 3],
+    tasks: u32,
+    rests: u8,
     rounds: u32,
     log: &mut Vec<u64>,
 ) -> Result<Settled<Job>, NoMemory>
     requires { 1 ≤ thieves }
 {
-    let (mut feed, mut thieves) = pool::<Job>(alloc, thieves, 3)?;
-    for i in 0..3 {
+    let (mut feed, mut thieves) = pool::<Job>(alloc, thieves, tasks)?;
+    for i in 0..tasks {
         feed.feed(Job {
-            number: i as u64 + 1,
-            rests: rests[i],
+            number: u64::from(i) + 1,
+            rests: if i == 0 { rests } else { 0 },
         });
     }
     feed.shut(rt);
@@ -192,7 +194,7 @@ fn sorted(alloc: Global, settled: &Settled<Job>) -> Result<Vec<u64>, NoMemory> {
 #[test]
 fn thieves_steal_in_turns(rt: HostRuntime) -> Result<(), Fail> {
     let mut log = Vec::new(rt.alloc());
-    let settled = run_turns(&rt, rt.alloc(), 2, [0, 0, 0], 4, &mut log)?;
+    let settled = run_turns(&rt, rt.alloc(), 2, 3, 0, 4, &mut log)?;
     assert_eq!(rt;
         log.as_slice(),
         [1, 2, 3, SHUT, SHUT, ENDED, ENDED, ENDED].as_slice()
@@ -208,12 +210,9 @@ fn thieves_steal_in_turns(rt: HostRuntime) -> Result<(), Fail> {
 #[test]
 fn a_task_is_put_back(rt: HostRuntime) -> Result<(), Fail> {
     let mut log = Vec::new(rt.alloc());
-    let settled = run_turns(&rt, rt.alloc(), 1, [1, 0, 0], 6, &mut log)?;
-    assert_eq!(rt; log.as_slice(), [1, 2, 3, 1, SHUT, ENDED].as_slice());
-    assert_eq!(rt;
-        sorted(rt.alloc(), &settled)?.as_slice(),
-        [1, 2, 3].as_slice()
-    );
+    let settled = run_turns(&rt, rt.alloc(), 1, 2, 1, 5, &mut log)?;
+    assert_eq!(rt; log.as_slice(), [1, 2, 1, SHUT, ENDED].as_slice());
+    assert_eq!(rt; sorted(rt.alloc(), &settled)?.as_slice(), [1, 2].as_slice());
     assert!(rt; settled.left.is_empty());
     Ok(())
 }
