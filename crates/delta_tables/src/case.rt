@@ -1,10 +1,8 @@
 use crate::comparing::compare_all;
-use filter_polarity::Program;
+use crate::programs::read;
 use graph_types::NoMemory;
-use job_io::{ByteList, LineList};
 use line_fields::Names;
-use program_grammar::{ProgramFault, read_program};
-use std::alloc::{AllocError, Global};
+use std::alloc::Global;
 
 /// Which graphs are made, and how each is changed.
 #[derive(Clone, Copy)]
@@ -22,26 +20,19 @@ pub struct Case {
     pub most: u32,
 }
 
-/// What a case comes to.
-pub fn answer(alloc: Global, line: &str) -> Result<String, AllocError> {
+/// `FIRST GRAPHS VERTICES EDGES LABELS UPDATES MOST: PROGRAM`: compares the search with the listing on made graphs.
+pub fn compare(alloc: Global, line: &str) -> Result<String, NoMemory> {
     let Some((numbers, text)) = line.split_once(": ") else {
-        return String::from_str(alloc, "no case");
+        return Ok(String::from_str(alloc, "no case")?);
     };
     let words: Vec<&str> = numbers.split(' ').collect(alloc)?;
     let Some(case) = read_case(&words) else {
-        return String::from_str(alloc, "no numbers");
+        return Ok(String::from_str(alloc, "no numbers")?);
     };
-    match read(alloc, text) {
-        Ok(Ok(program)) => answer_program(alloc, case, &program),
-        Ok(Err(_)) => String::from_str(alloc, "no program"),
-        Err(NoMemory) => String::from_str(alloc, "out of memory"),
-    }
-}
-
-fn answer_program(alloc: Global, case: Case, program: &Program) -> Result<String, AllocError> {
-    match compare_all(alloc, case, program) {
-        Ok(outcome) => outcome.text(alloc),
-        Err(NoMemory) => String::from_str(alloc, "out of memory"),
+    let mut names = Names::new(alloc)?;
+    match read(alloc, text, &mut names)? {
+        Ok(program) => Ok(compare_all(alloc, case, &program)?.text(alloc)?),
+        Err(_) => Ok(String::from_str(alloc, "no program")?),
     }
 }
 
@@ -59,22 +50,4 @@ fn read_case(words: &[&str]) -> Option<Case> {
         updates: updates.parse::<u32>().ok()?,
         most: most.parse::<u32>().ok()?,
     })
-}
-
-/// The program that the lines of a text say.
-fn read(alloc: Global, text: &str) -> Result<Result<Program, ProgramFault>, NoMemory> {
-    let mut names = Names::new(alloc)?;
-    let mut lines = LineList::new(alloc);
-    for line in text.split(';') {
-        lines.push(bytes(alloc, line)?)?;
-    }
-    Ok(read_program(alloc, &lines, &mut names))
-}
-
-fn bytes(alloc: Global, text: &str) -> Result<ByteList, NoMemory> {
-    let mut bytes = ByteList::new(alloc);
-    for byte in text.as_bytes() {
-        bytes.push(*byte)?;
-    }
-    Ok(bytes)
 }

@@ -3,12 +3,12 @@ ghost use Rattle.std.specs.Prelude.{◌≡◌};
 ghost use Rattle.mining_model.specs.meaning.NetChange.{net_change};
 
 use crate::case::Case;
+use crate::deltas::{delta, delta_in_turns, is_told};
 use crate::draws::Draws;
 use crate::graphs::{build, change, draw_graph};
 use crate::outcome::{Change, Outcome, Sums};
-use delta_task::{Delta, DeltaStop, DeltaTurn, DeltaWalk, delta_of};
 use filter_polarity::Program;
-use graph_types::{Net, NoMemory, Piece, Snapshot, TwoSnapshots};
+use graph_types::{Net, NoMemory, Snapshot};
 use plain_miner::{embeddings, without};
 use std::alloc::Global;
 
@@ -55,9 +55,9 @@ fn compare_change(
     let gone = without(alloc, &was, &is)?;
     let come = without(alloc, &is, &was)?;
     let few = gone.len().saturating_add(come.len()) <= most as usize;
-    let delta = search(alloc, program, net, before, after, most)?;
-    let in_turns = search_in_turns(alloc, program, net, before, after, most)?;
-    if !agrees(&delta, &gone, &come, few) || !agrees(&in_turns, &gone, &come, few) {
+    let told = delta(alloc, program, net, before, after, most)?;
+    let in_turns = delta_in_turns(alloc, program, net, before, after, most)?;
+    if !is_told(&told, &gone, &come, few) || !is_told(&in_turns, &gone, &come, few) {
         return Ok(None);
     }
     Ok(Some(Change {
@@ -66,64 +66,4 @@ fn compare_change(
         come: come.len(),
         over: !few,
     }))
-}
-
-/// What the search tells of a change, of which this is the net change.
-fn search(
-    alloc: Global,
-    program: &Program,
-    net: &Net,
-    before: &Snapshot,
-    after: &Snapshot,
-    most: u32,
-) -> Result<Delta, NoMemory>
-    requires { net.now ≡ net_change before.now after.now }
-{
-    before.simple();
-    after.simple();
-    let mut view = TwoSnapshots::new(before, after);
-    match delta_of(alloc, program, net, &mut view, most) {
-        Ok(delta) => Ok(delta),
-        Err(DeltaStop::NoMemory) => Err(NoMemory),
-        // Nothing in two snapshots is ever held.
-        Err(DeltaStop::Held(_)) => unreachable!(),
-    }
-}
-
-/// What the search tells of the change where it rests after each read.
-fn search_in_turns(
-    alloc: Global,
-    program: &Program,
-    net: &Net,
-    before: &Snapshot,
-    after: &Snapshot,
-    most: u32,
-) -> Result<Delta, NoMemory>
-    requires { net.now ≡ net_change before.now after.now }
-{
-    before.simple();
-    after.simple();
-    let mut view = TwoSnapshots::new(before, after);
-    let mut walk = DeltaWalk::new(alloc, program, net, most)?;
-    loop {
-        match walk.turn(alloc, program, &mut view, 1) {
-            Ok(DeltaTurn::More) => {}
-            Ok(DeltaTurn::Ready(delta)) => return Ok(delta),
-            Err(DeltaStop::NoMemory) => return Err(NoMemory),
-            // Nothing in two snapshots is ever held.
-            Err(DeltaStop::Held(_)) => unreachable!(),
-        }
-    }
-}
-
-/// Whether just these pieces are listed where they are few, and it is told that there are more where they aren't.
-fn agrees(delta: &Delta, gone: &[Piece], come: &[Piece], few: bool) -> bool {
-    match delta {
-        Delta::Listed { rem, add } => few && are_same(rem, gone) && are_same(add, come),
-        Delta::Over => !few,
-    }
-}
-
-fn are_same(pieces: &[Piece], others: &[Piece]) -> bool {
-    pieces == others
 }

@@ -43,7 +43,7 @@ pub fn build(alloc: Global, updates: &[Update]) -> Result<Snapshot, NoMemory>
 }
 
 /// Makes an update, where the graph accepts it.
-fn make(graph: &mut Snapshot, update: &Update) -> Result<(), NoMemory>
+pub fn make(graph: &mut Snapshot, update: &Update) -> Result<(), NoMemory>
     ensures { OnOk result (graph.new ≡ graph_after graph.old update.now) }
 {
     match step(graph, update) {

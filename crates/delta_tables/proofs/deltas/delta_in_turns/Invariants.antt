@@ -1,6 +1,6 @@
 use Rattle.std.proofs.Common.{◌≡◌}
 use Rattle.delta_task.specs.calls.Walking.{IsDeltaWalk, reads_left}
-use Rattle.delta_tables.proofs.comparing.search_in_turns.Given as goal
+use Rattle.delta_tables.proofs.deltas.delta_in_turns.Given as goal
 
 -- the room for notes is the most that is listed
 abbrev pub ghost-turn : goal.ghost-turn
