@@ -1,4 +1,4 @@
-"""How much time and memory a million rows take."""
+"""How much memory a million rows take and, where `TIMED` is set in the environment, how much time."""
 
 import os
 import random
@@ -22,18 +22,16 @@ class MillionRows(unittest.TestCase):
     def test_a_million_rows_of_a_year(self):
         """Payments between 50,000 accounts on the days of a year, some 80,000 of which are live at a time.
 
-        The time is that of the processor, and the better one of two runs where the first takes too long, since other
-        work on a machine slows both down.
+        The time is that of the processor. It is asked only on demand, since a machine's other work slows it down.
         """
         with tempfile.TemporaryDirectory() as folder:
             table = Path(folder) / 'payments.csv'
             write_table(table)
             seconds, megabytes = measure(table)
-            if seconds > MOST_SECONDS:
-                seconds = min(seconds, measure(table)[0])
         print(f'\na million rows: {seconds:.1f} s, {megabytes:.0f} MB')
-        self.assertLess(seconds, MOST_SECONDS)
         self.assertLess(megabytes, MOST_MEGABYTES)
+        if 'TIMED' in os.environ:
+            self.assertLess(seconds, MOST_SECONDS)
 
 
 def write_table(path):
