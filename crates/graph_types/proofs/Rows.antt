@@ -1,15 +1,13 @@
 -- What the directed graph that rows store has at a vertex and at an edge, and its edges in order.
-use Rattle.std.proofs.Common.{◌≡◌, ℕ, Bool, true, false, ◌&&◌, eqb, cond, List, [], ◌∷◌, ◌++◌, map, refl, sym, ap, subst, ◌∙◌, Option, None, Some, arith}
+use Rattle.std.proofs.Common.{◌≡◌, ℕ, Bool, true, false, ◌&&◌, eqb, cond, List, [], ◌∷◌, map, refl, sym, ap, subst, ◌∙◌, Option, None, Some}
 use Rattle.std.specs.List.{AllByRecursion, flat_map}
 use Rattle.std.specs.List.Sorted.{IsStrictlySortedBy}
 use Rattle.std.specs.Map.{keys_of}
 use Rattle.std.specs.Option.{option_or, option_map, option_and_then}
-use Rattle.std.specs.Ordering.{nat_cmp, eq_by_cmp, is_eq}
+use Rattle.std.specs.Ordering.{nat_cmp, eq_by_cmp}
 use Rattle.std.specs.Cmp.{nat_cmp_total, tied_then}
-use Rattle.std.specs.declared.cmp.Ordering.{Ordering}
 use Rattle.std.specs.declared.cmp.Ordering.TheVariants.{Less}
 use Rattle.std.specs.FinMap as map
-use Rattle.std.proofs.lemmas.Bool.Decides.{nat_tests}
 use Rattle.std.proofs.lemmas.Bool.{eqb-true}
 use Rattle.std.proofs.lemmas.Map.Keys.{sorted_head, sorted_tail}
 use Rattle.std.proofs.lemmas.Map.Made.{keys_of-map_values}
@@ -19,23 +17,12 @@ use Rattle.graph_types.specs.storage.Adjacency.{Rows, edges_from, graph_of_rows}
 use Rattle.graph_types.specs.meaning.Orders.{pair_cmp_total}
 use Rattle.graph_types.proofs.Views.{entries-seen, keys-seen}
 use Rattle.shared_lemmas.proofs.FiniteMaps.{keys_rise}
+pub use Rattle.shared_lemmas.proofs.OrderedMaps.{find-append, find-below}
+pub use Rattle.shared_lemmas.proofs.Orderings.{nat-test}
 
--- two numbers, and two pairs of numbers, tie where they are equal
-pub nat-test : (x y : ℕ) → eq_by_cmp nat_cmp x y ≡ eqb x y
-nat-test x y = grind (arith, nat_tests)
-
+-- two pairs of numbers tie where they are equal
 pub pair-test : (e f : ℕ × ℕ) → eq_by_cmp pair_cmp e f ≡ (eqb e.0 f.0 && eqb e.1 f.1)
 pair-test e f = sym (tied_then _ _) ∙ (λ i. nat-test e.0 f.0 i && nat-test e.1 f.1 i)
-
-module _ {K X : Type 0} (R : K → K → Ordering) where
-  pub find-append : (q : K) (es fs : List (K × X)) → map.find R q (es ++ fs) ≡ option_or (map.find R q es) (map.find R q fs)
-  find-append q [] fs = refl
-  find-append q (e ∷ es) fs =
-      elim (eq_by_cmp R q e.0) as (λ b. cond b (Some e.1) (map.find R q (es ++ fs)) ≡ option_or (cond b (Some e.1) (map.find R q es)) (map.find R q fs)) [ true ↦ refl | false ↦ find-append q es fs ]
-
-  pub find-below : (q : K) (es : List (K × X)) → AllByRecursion (λ y. R q y ≡ Less) (keys_of es) → map.find R q es ≡ None
-  find-below q [] h = refl
-  find-below q (e ∷ es) h = ap (λ r. cond (is_eq r) (Some e.1) (map.find R q es)) h.0 ∙ find-below q es h.1
 
 either : {A : Type 0} (b : Bool) (x : A) → x ≡ cond b x x
 either true x = refl

@@ -7,8 +7,8 @@ ghost use Rattle.graph_types.specs.storage.Seen.{seen_at};
 
 use crate::neighbours::Neighbours;
 use crate::{Edge, EdgeList, LabelId, NoMemory, VertexId, VertexList};
+use id_map::IdMap;
 use std::alloc::Global;
-use std::collections::BTreeMap;
 use std::marker::Model;
 
 /// What is known of a vertex: its label, and where its edges lead.
@@ -18,15 +18,14 @@ pub(crate) struct Vertex {
     pub near: Neighbours<LabelId>,
 }
 
-/// A directed labelled graph, as one ordered map of its vertices, each with the edges from it.
+/// A directed labelled graph, as one map of its vertices, each with the edges from it.
 #[derive(Debug, Drop)]
 pub(crate) struct Adjacency {
-    rows: BTreeMap<VertexId, Vertex>,
+    rows: IdMap<Vertex>,
     alloc: Global,
 }
 
 impl Model for Adjacency {
-    ghost use Rattle.std.specs.FinMap as map;
     ghost use Rattle.graph_types.specs.meaning.Graph.{Graph, graph_code};
     ghost use Rattle.graph_types.specs.storage.Adjacency.{graph_of_rows};
 
@@ -34,7 +33,7 @@ impl Model for Adjacency {
 
     ghost coded = { graph_code };
 
-    ghost view = { λ a. graph_of_rows (map.from_entries a.rows.entries) };
+    ghost view = { λ a. graph_of_rows a.rows };
 }
 
 impl Adjacency {
@@ -43,7 +42,7 @@ impl Adjacency {
         ensures { result ≡ empty_graph }
     {
         Adjacency {
-            rows: BTreeMap::new(alloc),
+            rows: IdMap::new(alloc),
             alloc,
         }
     }
@@ -53,14 +52,14 @@ impl Adjacency {
         ensures label { (seen_at result).label ≡ map.get self.now.labels v }
         ensures near { (w : ℕ) → map.get (seen_at result).near w ≡ map.get self.now.edges (v, w) }
     {
-        self.rows.get(&v)
+        self.rows.get(v.0)
     }
 
     /// The label of a vertex.
     pub fn label(&self, v: VertexId) -> Option<LabelId>
         ensures { result ≡ map.get self.now.labels v }
     {
-        match self.rows.get(&v) {
+        match self.rows.get(v.0) {
             Some(vertex) => Some(vertex.label),
             None => None,
         }
@@ -70,7 +69,7 @@ impl Adjacency {
     pub fn edge_label(&self, from: VertexId, to: VertexId) -> Option<LabelId>
         ensures { result ≡ map.get self.now.edges (from, to) }
     {
-        match self.rows.get(&from) {
+        match self.rows.get(from.0) {
             Some(vertex) => vertex.near.get(to).copied(),
             None => None,
         }
@@ -81,12 +80,12 @@ impl Adjacency {
         ensures ok { OnOk result (self.new ≡ with_vertex self.old v label) }
         ensures err { OnErr result (self.new ≡ self.old) }
     {
-        if let Some(vertex) = self.rows.get_mut(&v) {
+        if let Some(vertex) = self.rows.get_mut(v.0) {
             vertex.label = label;
             return Ok(());
         }
         let near = Neighbours::new(self.alloc);
-        self.rows.insert(v, Vertex { label, near })?;
+        self.rows.insert(v.0, Vertex { label, near })?;
         Ok(())
     }
 
@@ -97,7 +96,7 @@ impl Adjacency {
         ensures err { OnErr result (self.new ≡ self.old) }
         ensures was_new { OnErr result (has_edge self.old (from, to) ≡ false) }
     {
-        let Some(vertex) = self.rows.get_mut(&from) else {
+        let Some(vertex) = self.rows.get_mut(from.0) else {
             unreachable!()
         };
         vertex.near.put(to, label)
@@ -107,7 +106,7 @@ impl Adjacency {
     pub fn take_edge(&mut self, from: VertexId, to: VertexId)
         ensures { self.new ≡ without_edge self.old (from, to) }
     {
-        let Some(vertex) = self.rows.get_mut(&from) else {
+        let Some(vertex) = self.rows.get_mut(from.0) else {
             return;
         };
         vertex.near.take(to);
@@ -118,7 +117,7 @@ impl Adjacency {
         ensures rest { self.new ≡ without_row self.old v }
         ensures taken { (w : ℕ) → map.get result w ≡ map.get self.old.edges (v, w) }
     {
-        let Some(vertex) = self.rows.remove(&v) else {
+        let Some(vertex) = self.rows.remove(v.0) else {
             return Neighbours::new(self.alloc);
         };
         vertex.near
@@ -138,8 +137,8 @@ impl Adjacency {
         ensures { IfOk result (λ vs. vs ≡ map.keys self.now.labels) }
     {
         let mut vertices = VertexList::new(alloc);
-        for v in self.rows.keys() {
-            vertices.push(*v)?;
+        for (v, _) in &self.rows {
+            vertices.push(VertexId(v))?;
         }
         Ok(vertices)
     }
@@ -150,7 +149,7 @@ impl Adjacency {
     {
         let mut edges = EdgeList::new(alloc);
         for (v, vertex) in &self.rows {
-            push_edges_up(*v, &vertex.near, &mut edges)?;
+            push_edges_up(VertexId(v), &vertex.near, &mut edges)?;
         }
         Ok(edges)
     }
@@ -160,7 +159,7 @@ impl Adjacency {
         ensures there { is_some result ≡ has_vertex self.now v }
         ensures labels { IfSome result (λ near. (w : ℕ) → map.get near.now w ≡ map.get self.now.edges (v, w)) }
     {
-        match self.rows.get(&v) {
+        match self.rows.get(v.0) {
             Some(vertex) => Some(&vertex.near),
             None => None,
         }
@@ -170,7 +169,7 @@ impl Adjacency {
     pub fn near(&self, alloc: Global, v: VertexId) -> Result<VertexList, NoMemory>
         ensures { IfOk result (λ ws. Lists nat_cmp (λ w. has_edge self.now (v, w)) ws) }
     {
-        match self.rows.get(&v) {
+        match self.rows.get(v.0) {
             Some(vertex) => list(alloc, &vertex.near),
             None => Ok(VertexList::new(alloc)),
         }

@@ -64,11 +64,11 @@ fn lower(x: Option<VertexId>, y: Option<VertexId>) -> Option<VertexId>
     Some(if b < a { b } else { a })
 }
 
-/// What is still to come, in a new list.
-pub(crate) fn list(alloc: Global, merge: Merge<'_>) -> Result<NearList, NoMemory>
+/// What is still to come, in a new list. It takes memory once where no more come than there is to be room for.
+pub(crate) fn list(alloc: Global, merge: Merge<'_>, room: usize) -> Result<NearList, NoMemory>
     ensures { IfOk result (λ near. near ≡ merge.entry) }
 {
-    let mut list = NearList::new(alloc);
+    let mut list = NearList::with_room(alloc, room)?;
     for near in merge {
         list.push(near)?;
     }

@@ -1,4 +1,4 @@
-ghost use Rattle.std.specs.Prelude.{◌≡◌, ◌↔◌, ◌^◌, ◌<◌, ◌||◌, [], ◌∷◌, ◌++◌, length, is_some, IsTrue, OnOk, OnErr, slice_get};
+ghost use Rattle.std.specs.Prelude.{◌≡◌, ◌↔◌, ◌^◌, ◌<◌, ◌||◌, [], ◌∷◌, ◌++◌, length, is_some, IsTrue, IfOk, OnOk, OnErr, slice_get};
 ghost use Rattle.std.specs.Iterator.Adapters.{IterYieldsInOrder};
 ghost use Rattle.std.specs.Option.{option_copied};
 ghost use Rattle.std.specs.Slice.Iter.{iter_rest};
@@ -8,7 +8,6 @@ ghost use Rattle.graph_types.specs.calls.Finding.{FindsNear};
 ghost use Rattle.graph_types.specs.storage.Ahead.{near_ends};
 
 use crate::{LabelId, NoMemory, VertexId};
-use smallvec::SmallVec;
 use std::alloc::Global;
 use std::marker::Model;
 use std::ops::DerefSlice;
@@ -32,14 +31,12 @@ impl Near {
     }
 }
 
-/// How many neighbours lie in a list itself.
-const INLINE: usize = 8;
-
-/// Neighbours in two graphs, in an order that the call says, which contracts see as a list. Eight lie
-/// in the value itself, more in an allocation. It acts as a slice of them.
+/// Neighbours in two graphs, in an order that the call says, which contracts see as a list. They lie in
+/// an allocation, so a list is moved by a few words, and takes none while it is empty. It acts as a slice
+/// of them.
 #[derive(Debug, Drop)]
 pub struct NearList {
-    items: SmallVec<Near, INLINE>,
+    items: Vec<Near>,
 }
 
 impl Model for NearList {
@@ -57,11 +54,20 @@ impl NearList {
         ensures { result ≡ [] }
     {
         NearList {
-            items: SmallVec::new(alloc),
+            items: Vec::new(alloc),
         }
     }
 
-    /// Puts a neighbour at the end, in constant time on average. It takes memory from the ninth on.
+    /// An empty list with room for so many neighbours.
+    pub fn with_room(alloc: Global, count: usize) -> Result<NearList, NoMemory>
+        ensures { IfOk result (λ list. list ≡ []) }
+    {
+        Ok(NearList {
+            items: Vec::with_capacity(alloc, count)?,
+        })
+    }
+
+    /// Puts a neighbour at the end, in constant time on average. It takes memory where there is no room left.
     pub fn push(&mut self, near: Near) -> Result<(), NoMemory>
         ensures ok { OnOk result (self.new ≡ self.old ++ near ∷ []) }
         ensures err { OnErr result (self.new ≡ self.old) }

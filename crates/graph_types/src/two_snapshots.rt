@@ -77,10 +77,11 @@ impl<'a> GraphView for TwoSnapshots<'a> {
     {
         self.reads = one_more(self.reads);
         let (before, after) = (self.before.vertex(v), self.after.vertex(v));
+        let room = degree(before).max(degree(after));
         Ok(Pair {
             before: label_of(before),
             after: label_of(after),
-            near: merge::list(alloc, Merge::of(cursor_of(before), cursor_of(after)))?,
+            near: merge::list(alloc, Merge::of(cursor_of(before), cursor_of(after)), room)?,
         })
     }
 

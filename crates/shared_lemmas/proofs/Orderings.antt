@@ -1,18 +1,23 @@
 -- What the answers of a comparison say.
-use Rattle.std.proofs.Common.{◌≡◌, true, refl, ap, ◌∙◌}
+use Rattle.std.proofs.Common.{◌≡◌, ℕ, true, eqb, refl, ap, ◌∙◌, arith}
 use Rattle.std.specs.Bool.{Decides}
 use Rattle.std.specs.Cmp.{IsTotalOrder, Equal-is}
 use Rattle.std.specs.FinMap.{IsAntisymmetric}
-use Rattle.std.specs.Ordering.{is_eq, is_lt, ordering_reverse, ordering_then}
+use Rattle.std.specs.Ordering.{eq_by_cmp, is_eq, is_lt, nat_cmp, ordering_reverse, ordering_then}
 use Rattle.std.specs.declared.cmp.Ordering.{Ordering}
 use Rattle.std.specs.declared.cmp.Ordering.TheVariants.{Less, Equal, Greater}
 use Rattle.std.proofs.lemmas.Bool.{false≢true}
+use Rattle.std.proofs.lemmas.Bool.Decides.{nat_tests}
 
 -- `Equal-is` of std, for `Less`
 pub Less-is : (r : Ordering) → Decides (is_lt r) (r ≡ Less)
 Less-is Less = (λ e. refl, λ e. refl)
 Less-is Equal = (λ e. absurd (false≢true e), λ e. ap is_lt e)
 Less-is Greater = (λ e. absurd (false≢true e), λ e. ap is_lt e)
+
+-- two numbers tie where they are equal
+pub nat-test : (x y : ℕ) → eq_by_cmp nat_cmp x y ≡ eqb x y
+nat-test x y = grind (arith, nat_tests)
 
 -- a tie changes nothing
 pub then_tie : (r : Ordering) → r ≡ ordering_then r Equal

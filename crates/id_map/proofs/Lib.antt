@@ -1,0 +1,3 @@
+pub mod OneChange
+pub mod PlacedItems
+pub mod ToldPlaces

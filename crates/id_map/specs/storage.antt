@@ -1,0 +1,3 @@
+-- How it is stored.
+pub mod Items
+pub mod Places
