@@ -1,4 +1,5 @@
 ghost use Rattle.std.specs.Prelude.{◌≡◌, ◌≤◌, ◌<◌, IsOk, IfOk, IfSome, OnOk, OnErr, None, Some};
+ghost use Rattle.graph_types.specs.meaning.Simple.{IsSimple};
 ghost use Rattle.mining_model.specs.meaning.Step.{graph_after, step as graph_step};
 ghost use Rattle.group_window.specs.calls.Differences.{IsDifference};
 ghost use Rattle.group_window.specs.meaning.Windows.{graph_before, most_updates, update_count, with_update};
@@ -110,8 +111,10 @@ impl OpenGroup {
 
     /// The graph before the group, where the graph is the one after it.
     pub(crate) fn into_before(self, graph: &Snapshot) -> Ghost<Snapshot>
-        ensures { result.value ≡ graph_before self.run graph.now }
+        ensures before { result.value ≡ graph_before self.run graph.now }
+        ensures simple { IsSimple result.value }
     {
+        graph.simple();
         match self.run {
             Some(run) => run.into_before(),
             None => Ghost::of(graph),
@@ -185,7 +188,8 @@ impl Run {
     }
 
     fn into_before(self) -> Ghost<Snapshot>
-        ensures { result.value ≡ self.before }
+        ensures before { result.value ≡ self.before }
+        ensures simple { IsSimple result.value }
     {
         self.before
     }

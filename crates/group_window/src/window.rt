@@ -3,7 +3,7 @@ ghost use Rattle.mining_model.specs.meaning.NetChange.{net_change};
 ghost use Rattle.mining_model.specs.meaning.Step.{graph_after, step as graph_step};
 ghost use Rattle.update_rules.specs.calls.Steps.{Steps};
 ghost use Rattle.update_rules.specs.meaning.Parts.{parts_between};
-ghost use Rattle.group_window.specs.meaning.Windows.{CanPush, HasRoom, StandsOn, ended, graph_of, most_groups, open_count, pushed, with_current, with_group};
+ghost use Rattle.group_window.specs.meaning.Windows.{CanPush, HasRoom, IsSound, StandsOn, ended, graph_of, most_groups, open_count, pushed, with_current, with_group};
 
 use crate::differences::difference_by;
 use crate::groups::{Group, OpenGroup};
@@ -38,7 +38,7 @@ impl Model for Window {
 
     ghost view = { λ w. record { first = w.first; shards = w.shards; base = first_graph w.groups.items; later = graphs_after w.groups.items; current = option_map (λ open_group. open_group.run) w.current } };
 
-    ghost invariant = { λ w. IsKept w.shards w.groups.items w.current };
+    ghost invariant = { λ w. IsKept w.first w.shards w.groups.items w.current };
 }
 
 impl Window {
@@ -70,6 +70,22 @@ impl Window {
         ensures { result ≡ length self.now.later }
     {
         self.groups.len()
+    }
+
+    /// The timestamp of the last of so many groups, or that before the first of them.
+    pub fn stamp_after(&self, groups: usize) -> Stamp
+        requires { groups ≤ length self.now.later }
+        ensures { result ≡ self.now.first + groups }
+    {
+        self.sound();
+        Stamp(self.first().0 + groups as u64)
+    }
+
+    /// Says of a window what is true of each, and does nothing.
+    pub fn sound(&self)
+        ensures { IsSound self.now }
+    {
+        let _groups = &self.groups;
     }
 
     /// How many updates the open group has, or `None` where none is open.
@@ -116,6 +132,20 @@ impl Window {
         Ok(())
     }
 
+    /// Steps the graph as `push` does, by an update that it accepts. Out of memory leaves both as they were.
+    pub fn push_accepted(&mut self, graph: &mut Snapshot, update: &Update) -> Result<(), NoMemory>
+        requires accepted { IsOk (graph_step graph.old update.now) }
+        requires free { CanPush self.old graph.old }
+        ensures graph { OnOk result (graph.new ≡ graph_after graph.old update.now) }
+        ensures ok { OnOk result (self.new ≡ pushed self.old self.old.current graph.old graph.new) }
+        ensures graph_err { OnErr result (graph.new ≡ graph.old) }
+        ensures err { OnErr result (self.new ≡ self.old) }
+        ensures stands { StandsOn self.new graph.new }
+    {
+        self.push_anywhere(graph, update)?;
+        Ok(())
+    }
+
     /// Ends the open group on the graph that its updates led to. Takes a few look-ups for each entry that
     /// they touched. Out of memory leaves the window as it was.
     pub fn end_group(&mut self, graph: &Snapshot) -> Result<(), NoMemory>
@@ -134,6 +164,7 @@ impl Window {
             unreachable!()
         };
         let before = group.into_before(graph);
+        graph.simple();
         let after = Ghost::of(graph);
         self.groups.push_reserved(Group {
             before,
@@ -159,7 +190,7 @@ impl Window {
         &self.groups[i].difference.parts
     }
 
-    fn push_accepted(&mut self, graph: &mut Snapshot, update: &Update) -> Result<(), NoMemory>
+    fn push_anywhere(&mut self, graph: &mut Snapshot, update: &Update) -> Result<(), NoMemory>
         requires accepted { IsOk (graph_step graph.old update.now) }
         requires free { CanPush self.old graph.old }
         ensures graph { OnOk result (graph.new ≡ graph_after graph.old update.now) }
@@ -177,6 +208,7 @@ impl Window {
         requires accepted { IsOk (graph_step graph.old update.now) }
         requires closed { self.old.current ≡ None }
         requires stands { StandsOn self.old graph.old }
+        requires room { length self.old.later < most_groups }
         ensures graph { OnOk result (graph.new ≡ graph_after graph.old update.now) }
         ensures ok { OnOk result (self.new ≡ with_group self.old graph.old graph.new) }
         ensures graph_err { OnErr result (graph.new ≡ graph.old) }
@@ -184,8 +216,10 @@ impl Window {
     {
         let difference = difference_by(self.alloc, graph, update, self.shards)?;
         self.groups.reserve(1)?;
+        graph.simple();
         let before = Ghost::of(graph);
         apply(graph, update)?;
+        graph.simple();
         let after = Ghost::of(graph);
         self.groups.push_reserved(Group {
             before,

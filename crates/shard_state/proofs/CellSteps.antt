@@ -1,5 +1,5 @@
 -- What is known of each entry after a step of one cell.
-use Rattle.std.proofs.Common.{◌≡◌, ◌≤◌, ℕ, true, false, cond, List, [], max, Option, None, Some, refl, sym, ap, subst, ◌∙◌, arith}
+use Rattle.std.proofs.Common.{◌≡◌, ◌≤◌, ℕ, true, false, cond, eqb, List, [], max, IfSome, Option, None, Some, refl, sym, ap, subst, ◌∙◌, arith}
 use Rattle.std.specs.Cmp.{nat_cmp_total, tied_itself}
 use Rattle.std.specs.FinMap as map
 use Rattle.std.specs.BTreeMap.{is_at}
@@ -16,7 +16,7 @@ use Rattle.update_rules.specs.declared.changes.Change.TheVariants.{Label, Near}
 use Rattle.update_rules.specs.meaning.Parts.{vertex_of}
 use Rattle.update_rules.specs.meaning.Places.{Place, place_cmp}
 use Rattle.version_cell.specs.calls.Changing.{IsFolded, KeepsVersions}
-use Rattle.version_cell.specs.meaning.Cell.{Timeline, changes_of, room_of}
+use Rattle.version_cell.specs.meaning.Cell.{HasNothing, Timeline, changes_of, room_of}
 use Rattle.version_cell.specs.declared.change.Change.{Change as Version}
 use Rattle.version_cell.specs.meaning.Changes.{Track, with_change}
 use Rattle.version_cell.proofs.Labels.{near-neighbourhood_after}
@@ -218,14 +218,52 @@ FoldsCell-absent cells v f none = record {
   floors = λ w apart. refl;
 }
 
--- a new cell
-pub KeepsEntries-fresh : (cells : Cells) (v : ℕ) (cell : Timeline) → map.get cells v ≡ None → cell.floor ≡ 0 → cell.at_floor ≡ record { label = None; near = map.empty } → cell.label.changes ≡ [] → cell.near ≡ map.empty →
+-- a new cell, in which room was made
+pub KeepsEntries-fresh : (cells : Cells) (v : ℕ) (fresh cell : Timeline) → map.get cells v ≡ None →
+    fresh.floor ≡ 0 → fresh.at_floor ≡ record { label = None; near = map.empty } → fresh.label.changes ≡ [] → fresh.near ≡ map.empty → KeepsVersions fresh cell →
     KeepsEntries cells (map.insert cells v cell)
-KeepsEntries-fresh cells v cell none floor at_floor label near =
+KeepsEntries-fresh cells v fresh cell none floor at_floor label near keeps =
     KeepsEntries-put cells v cell
-    (λ to. fresh-versions cell at_floor label near to ∙ ap (λ o. versions_known o to) (sym none))
+    (λ to. kept-versions fresh cell keeps to ∙ fresh-versions fresh at_floor label near to ∙ ap (λ o. versions_known o to) (sym none))
     (λ to. let little : 0 ≤ room_in_cell cell to = omega arith in subst (λ o. room_known o to ≤ room_in_cell cell to) (sym none) little)
-    (floor ∙ ap floor_known (sym none))
+    (keeps.floor ∙ floor ∙ ap floor_known (sym none))
+
+-- a cell with nothing tells what no cell tells
+nothing-versions : (cell : Timeline) → HasNothing cell → (to : Option ℕ) → versions_in_cell cell to ≡ no_versions
+nothing-versions cell nothing None = λ i. record { at_floor = nothing.label i; changes = nothing.label_changes i }
+nothing-versions cell nothing (Some w) = λ i. record {
+  at_floor = (ap (λ m. map.get m w) nothing.near ∙ map.get-empty {X = ℕ} nat_cmp w) i;
+  changes = (ap (λ m. changes_of (map.get m w)) nothing.near_changes ∙ ap changes_of (map.get-empty {X = Track} nat_cmp w)) i;
+}
+
+nothing-known : (known : Option Timeline) → IfSome known HasNothing → (to : Option ℕ) → versions_known known to ≡ no_versions
+nothing-known None nothing to = refl
+nothing-known (Some cell) nothing to = nothing-versions cell nothing to
+
+-- a folded cell with nothing goes
+module _ (old cells : Cells) (v f : ℕ) (folds : FoldsCell old cells v f) (nothing : IfSome (map.get cells v) HasNothing) where
+  get-removed : (w : ℕ) → map.get (map.remove cells v) w ≡ cond (eq_by_cmp nat_cmp w v) None (map.get cells w)
+  get-removed w = map.get-remove nat_cmp_total cells v w
+
+  get-own : (w : ℕ) → w ≡ v → map.get (map.remove cells v) w ≡ None
+  get-own w same = get-removed w ∙ ap (λ b. cond b None (map.get cells w)) (ap (λ u. eq_by_cmp nat_cmp u v) same ∙ ap is_eq (tied_itself nat_cmp_total v))
+
+  get-other : (w : ℕ) → eqb w v ≡ false → map.get (map.remove cells v) w ≡ map.get cells w
+  get-other w apart = get-removed w ∙ ap (λ b. cond b None (map.get cells w)) (nat-test w v ∙ apart)
+
+  pub FoldsCell-removed : FoldsCell old (map.remove cells v) v f
+  FoldsCell-removed = record {
+    own = λ p same.
+        ap (λ o. versions_known o p.1) (get-own p.0 same)
+        ∙ sym (nothing-known (map.get cells v) nothing p.1)
+        ∙ ap (λ u. versions_in cells (u, p.1)) (sym same)
+        ∙ folds.own p same;
+    others = λ p apart. ap (λ o. versions_known o p.1) (get-other p.0 apart) ∙ folds.others p apart;
+    own_floor =
+        let is : floor_in (map.remove cells v) v ≡ 0 = ap floor_known (get-own v refl) in
+        omega (arith, is);
+    floors = λ w apart. ap floor_known (get-other w apart) ∙ folds.floors w apart;
+  }
 
 -- a cell among entries is written to
 module _ (es left : List (ℕ × Timeline)) (v : ℕ) (old new : Timeline) (was : lookup (is_at (nat_cmp v)) es ≡ Some old)
@@ -235,6 +273,17 @@ module _ (es left : List (ℕ × Timeline)) (v : ℕ) (old new : Timeline) (was 
 
   wrote : map.from_entries {R = nat_cmp} left ≡ map.insert (map.from_entries es) v new
   wrote = written-seen nat_cmp_total map.nat_cmp-IsAntisymmetric es left v new is
+
+  -- as it was
+  pub same-written : new ≡ old → map.from_entries {R = nat_cmp} left ≡ map.from_entries {R = nat_cmp} es
+  same-written same =
+      map.same_map nat_cmp_total map.nat_cmp-IsAntisymmetric _ _ (λ q.
+      ap (λ m. map.get m q) wrote
+      ∙ map.get-insert nat_cmp_total (map.from_entries {R = nat_cmp} es) v new q
+      ∙ elim (eq_by_cmp nat_cmp q v) as (λ b. eq_by_cmp nat_cmp q v ≡ b → cond b (Some new) (map.get (map.from_entries {R = nat_cmp} es) q) ≡ map.get (map.from_entries {R = nat_cmp} es) q) [
+        | true ↦ λ tied. ap Some same ∙ sym had ∙ ap (map.get (map.from_entries {R = nat_cmp} es)) (sym (same_item map.nat_cmp-IsAntisymmetric q v tied))
+        | false ↦ λ _. refl
+      ] refl)
 
   pub has-written : map.get (map.from_entries {R = nat_cmp} left) v ≡ Some new
   has-written =

@@ -13,3 +13,5 @@ pub mod Told
 pub mod NotingEach
 pub mod StoredEntries
 pub mod GroupsTogether
+pub mod TellingOn
+pub mod PrunedInTurn

@@ -4,3 +4,4 @@ pub mod CellChanges
 pub mod Touching
 pub mod Viewing
 pub mod Together
+pub mod Sharing

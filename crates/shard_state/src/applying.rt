@@ -2,7 +2,7 @@ ghost use Rattle.std.specs.Prelude.{◌≡◌, ℕ, ◌<◌, ◌≤◌, ◌++◌
 ghost use Rattle.std.specs.List.{AllByRecursion};
 ghost use Rattle.std.specs.List.Sorted.{IsStrictlySortedBy};
 ghost use Rattle.update_rules.specs.meaning.Places.{Place, place_cmp};
-ghost use Rattle.shard_state.specs.calls.CellChanges.{IsReady, FoldsCell, KeepsEntries, noted_all};
+ghost use Rattle.shard_state.specs.calls.CellChanges.{IsReady, KeepsEntries, noted_all};
 ghost use Rattle.shard_state.specs.meaning.Shards.{place_of};
 ghost use Rattle.shard_state.specs.meaning.Versions.{folded_to};
 ghost use Rattle.shard_state.specs.storage.Cells.{floor_in, room_in, versions_in};
@@ -10,7 +10,7 @@ ghost use Rattle.shard_state.specs.storage.Touched.{IsStored, touches_of};
 
 use crate::cells::{Cells, vertex};
 use crate::touched::Touched;
-use graph_types::{NoMemory, Stamp, VertexId};
+use graph_types::{NoMemory, Stamp};
 use update_rules::Change;
 
 /// Makes some changes ones that take no memory. Out of memory leaves what the cells tell.
@@ -45,16 +45,6 @@ pub(crate) fn fold_touched(cells: &mut Cells, touched: &mut Touched, floor: Stam
     ensures folded { (f u : ℕ) → IsStored f u cells.old touched.old.touches → f ≤ floor → (p : Place) → versions_in cells.new p ≡ folded_to floor (versions_in cells.old p) }
 {
     while let Some(v) = touched.take_due(floor) {
-        fold_once(cells, v, floor);
-    }
-}
-
-/// Folds the cell of a vertex, unless it was folded so far already.
-fn fold_once(cells: &mut Cells, v: VertexId, floor: Stamp)
-    ensures folds { floor_in cells.old v < floor → FoldsCell cells.old cells.new v floor }
-    ensures rests { floor ≤ floor_in cells.old v → cells.new ≡ cells.old }
-{
-    if cells.floor(v) < floor {
         cells.fold(v, floor);
     }
 }

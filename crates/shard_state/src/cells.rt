@@ -1,4 +1,4 @@
-ghost use Rattle.std.specs.Prelude.{◌≡◌, ◌<◌, IsTrue, OnOk};
+ghost use Rattle.std.specs.Prelude.{◌≡◌, ◌<◌, ◌≤◌, false, IsTrue, IfOk, IfSome, OnOk};
 ghost use Rattle.std.specs.FinMap as map;
 ghost use Rattle.std.specs.Option.{option_copied};
 ghost use Rattle.update_rules.specs.meaning.Parts.{vertex_of};
@@ -7,6 +7,7 @@ ghost use Rattle.shard_state.specs.calls.CellChanges.{FoldsCell, KeepsEntries, N
 ghost use Rattle.shard_state.specs.meaning.Shards.{place_of, version_of};
 ghost use Rattle.shard_state.specs.storage.Cells.{floor_in, room_in, room_in_cell, versions_in, versions_in_cell};
 ghost use Rattle.version_cell.specs.calls.Changing.{KeepsVersions};
+ghost use Rattle.version_cell.specs.meaning.Cell.{HasNothing};
 ghost use Rattle.version_cell.specs.meaning.Changes.{IsAfterLast};
 
 use graph_types::{NoMemory, Stamp, VertexId};
@@ -54,30 +55,19 @@ impl Cells {
         self.items.get(&v)
     }
 
-    /// The timestamp up to which the cell of a vertex is folded.
-    pub fn floor(&self, v: VertexId) -> Stamp
-        ensures { result ≡ floor_in self.now v }
-    {
-        match self.get(v) {
-            Some(cell) => cell.floor(),
-            None => Stamp(0),
-        }
-    }
-
-    /// Makes the next change of an entry one that takes no memory. Out of memory leaves what the cells tell.
+    /// Makes the next change of an entry one that takes no memory. Out of memory leaves what the cells tell. Takes
+    /// one look-up, and another for a vertex without a cell.
     pub fn reserve(&mut self, change: &Change) -> Result<(), NoMemory>
         ensures kept { KeepsEntries self.old self.new }
         ensures ok { OnOk result (0 < room_in self.new (place_of change.now)) }
     {
-        let v = vertex(change);
-        give_cell(&mut self.items, v, self.alloc)?;
-        let Some(cell) = self.items.get_mut(&v) else {
-            unreachable!()
-        };
-        reserve_in(cell, change)
+        if reserve_known(&mut self.items, change)? {
+            return Ok(());
+        }
+        give_cell(&mut self.items, change, self.alloc)
     }
 
-    /// Notes what an entry became at a timestamp. It takes no memory.
+    /// Notes what an entry became at a timestamp. It takes no memory, and one look-up.
     pub fn note(&mut self, at: Stamp, change: &Change)
         requires reserved { 0 < room_in self.old (place_of change.now) }
         requires above { floor_in self.old (vertex_of change.now) < at }
@@ -91,31 +81,68 @@ impl Cells {
         note_in(cell, at, change);
     }
 
-    /// Folds the cell of a vertex to a timestamp, where it has one. It takes no memory.
+    /// Folds the cell of a vertex to a timestamp, where it has one that is not folded so far already. A cell in
+    /// which nothing is left goes. It takes no memory, and one look-up, and another where a cell goes.
     pub fn fold(&mut self, v: VertexId, t: Stamp)
-        ensures { FoldsCell self.old self.new v t }
+        ensures folds { floor_in self.old v < t → FoldsCell self.old self.new v t }
+        ensures rests { t ≤ floor_in self.old v → self.new ≡ self.old }
     {
-        let Some(cell) = self.items.get_mut(&v) else {
-            return;
-        };
-        cell.fold_to(t);
+        if fold_known(&mut self.items, v, t) {
+            self.items.remove(&v);
+        }
     }
 }
 
-/// Gives a vertex a cell, where it has none.
+/// Makes the next change of an entry one that takes no memory, where its vertex has a cell, and answers whether it
+/// has one.
+fn reserve_known(items: &mut BTreeMap<VertexId, Cell>, change: &Change) -> Result<bool, NoMemory>
+    ensures kept { KeepsEntries (map.from_entries {R = nat_cmp} items.old.entries) (map.from_entries {R = nat_cmp} items.new.entries) }
+    ensures known { IfOk result (λ known. known ≡ map.contains_key (map.from_entries {R = nat_cmp} items.new.entries) (vertex_of change.now)) }
+    ensures room { IfOk result (λ known. IsTrue known → 0 < room_in (map.from_entries {R = nat_cmp} items.new.entries) (place_of change.now)) }
+{
+    let v = vertex(change);
+    let Some(cell) = items.get_mut(&v) else {
+        return Ok(false);
+    };
+    reserve_in(cell, change)?;
+    Ok(true)
+}
+
+/// Gives the vertex of an entry, which has no cell, one in which the next change of the entry takes no memory.
 fn give_cell(
     items: &mut BTreeMap<VertexId, Cell>,
-    v: VertexId,
+    change: &Change,
     alloc: Global,
 ) -> Result<(), NoMemory>
+    requires { map.contains_key (map.from_entries {R = nat_cmp} items.old.entries) (vertex_of change.now) ≡ false }
     ensures kept { KeepsEntries (map.from_entries {R = nat_cmp} items.old.entries) (map.from_entries {R = nat_cmp} items.new.entries) }
-    ensures ok { OnOk result (IsTrue (map.contains_key (map.from_entries {R = nat_cmp} items.new.entries) v)) }
+    ensures ok { OnOk result (0 < room_in (map.from_entries {R = nat_cmp} items.new.entries) (place_of change.now)) }
 {
-    if items.contains_key(&v) {
-        return Ok(());
-    }
-    items.insert(v, Cell::new(alloc))?;
+    let v = vertex(change);
+    let mut cell = Cell::new(alloc);
+    reserve_in(&mut cell, change)?;
+    items.insert(v, cell)?;
     Ok(())
+}
+
+/// Folds the cell of a vertex to a timestamp, where it has one that is not folded so far already, and answers
+/// whether it did so and nothing is left in it.
+fn fold_known(items: &mut BTreeMap<VertexId, Cell>, v: VertexId, t: Stamp) -> bool
+    ensures folds { floor_in (map.from_entries {R = nat_cmp} items.old.entries) v < t →
+        FoldsCell (map.from_entries {R = nat_cmp} items.old.entries) (map.from_entries {R = nat_cmp} items.new.entries) v t }
+    ensures rests { t ≤ floor_in (map.from_entries {R = nat_cmp} items.old.entries) v →
+        map.from_entries {R = nat_cmp} items.new.entries ≡ map.from_entries {R = nat_cmp} items.old.entries }
+    ensures emptied { IsTrue result → (floor_in (map.from_entries {R = nat_cmp} items.old.entries) v < t) ×
+        IfSome (map.get (map.from_entries {R = nat_cmp} items.new.entries) v) HasNothing }
+{
+    let Some(cell) = items.get_mut(&v) else {
+        return false;
+    };
+    if t <= cell.floor() {
+        return false;
+    }
+    cell.fold_to(t);
+    cell.is_empty()
 }
 
 fn reserve_in(cell: &mut Cell, change: &Change) -> Result<(), NoMemory>

@@ -7,6 +7,7 @@ mod cells;
 pub mod laws;
 mod owned_view;
 mod shard;
+pub mod sharing;
 mod together;
 mod touch;
 mod touched;

@@ -105,8 +105,8 @@ impl Shard {
     }
 
     /// What a vertex has before and after a timestamp above the floor: its label, and its neighbours, ascending,
-    /// each joined with it before or after. Takes a look-up, and time linear in the number of neighbours, and
-    /// logarithmic in that of the changed ones for each. Only the answer takes memory.
+    /// each joined with it before or after. Takes a look-up, and time linear in the number of neighbours and in
+    /// that of the changes of their edges. Only the answer takes memory.
     pub fn pair(&self, alloc: Global, v: VertexId, t: Stamp) -> Result<Pair, NoMemory>
         requires { self.now.floor < t }
         ensures { IfOk result (λ pair. pair ≡ pair_of_vertex self.now v t) }

@@ -1,5 +1,5 @@
 -- Shards that take in the groups of a window.
-use Rattle.std.proofs.Common.{◌≡◌, ◌<◌, ◌≤◌, ◌+◌, ◌-◌, ℕ, zero, suc, true, nat_lt, List, [], ◌∷◌, map as mapped, length, get_or, set, unwrap_or, refl, sym, ap, subst, ◌∙◌, arith}
+use Rattle.std.proofs.Common.{◌≡◌, ◌<◌, ◌≤◌, ◌+◌, ◌-◌, ℕ, true, nat_lt, List, [], ◌∷◌, map as mapped, length, unwrap_or, sym, ap, subst, ◌∙◌, arith}
 use Rattle.std.specs.List.{AllByRecursion, list_all, range_with_len}
 use Rattle.std.proofs.lemmas.Bool.{and_parts}
 use Rattle.std.proofs.lemmas.Bool.Decides.{nat_tests}
@@ -11,13 +11,14 @@ use Rattle.mining_model.specs.meaning.History.{graph_at}
 use Rattle.update_rules.specs.declared.shards.Part.{Part}
 use Rattle.update_rules.specs.meaning.Parts.{parts_between}
 use Rattle.group_window.specs.meaning.Windows.{WindowValue, graph_of as window_graph}
+use Rattle.shard_state.specs.calls.Sharing.{empty_shards}
 use Rattle.shard_state.specs.calls.Together.{FitTogether, with_part}
 use Rattle.shard_state.specs.calls.Viewing.{CanBeViewed}
 use Rattle.shard_state.specs.meaning.Shards.{ShardValue, empty_shard, pruned}
 use Rattle.shard_state.specs.meaning.Telling.{Tells, graph_of, graphs_of, last_of}
 use Rattle.shard_state.proofs.GroupsTogether.{AreNumbered-pruned, AreNumbered-with_parts, FitTogether-next, Tell-next, Tell-pruned}
 use Rattle.shard_state.proofs.Told.{CanBeViewed-told, Tells-empty}
-use Rattle.shard_tables.specs.calls.Asking.{TellWindow, empty_shards}
+use Rattle.shard_tables.specs.calls.Asking.{TellWindow}
 use Rattle.shard_tables.specs.calls.Building.{IsFromNothing}
 
 -- shards without a vertex tell no group
@@ -99,23 +100,3 @@ module _ (w : WindowValue) (n : ℕ) (shards : List ShardValue) (tell : TellWind
       let first = tell.from_nothing.first in
       let from : w.first < t = omega arith in
       CanBeViewed-told (graphs_of w) n shards tell.some tell.numbered tell.tell tell.from_nothing.simple t from within (floors-tested t shards test)
-
--- shards of which the first i are pruned
-abbrev pub pruned_first : ℕ → ℕ → List ShardValue → List ShardValue
-pruned_first f zero shards = shards
-pruned_first f (suc i) [] = []
-pruned_first f (suc i) (shard ∷ shards) = pruned shard f ∷ pruned_first f i shards
-
-pruned-suc : (f i : ℕ) (shards : List ShardValue) (d : ShardValue) → i < length shards → set (pruned_first f i shards) i (pruned (get_or (pruned_first f i shards) i d) f) ≡ pruned_first f (suc i) shards
-pruned-suc f i [] d within = absurd (omega (arith, within))
-pruned-suc f zero (shard ∷ shards) d within = refl
-pruned-suc f (suc i) (shard ∷ shards) d within = let few : i < length shards = omega (arith, within) in ap (λ rest. pruned shard f ∷ rest) (pruned-suc f i shards d few)
-
-pub pruned-next : (f i : ℕ) (shards : List ShardValue) (d : ShardValue) → i < length shards → set (pruned_first f i shards) i (pruned (get_or (pruned_first f i shards) i d) f) ≡ pruned_first f (i + 1) shards
-pruned-next f i shards d within = let next : suc i ≡ i + 1 = omega arith in pruned-suc f i shards d within ∙ ap (λ k. pruned_first f k shards) next
-
-pub pruned-all : (f i : ℕ) (shards : List ShardValue) → i ≡ length shards → pruned_first f i shards ≡ mapped (λ shard. pruned shard f) shards
-pruned-all f zero [] all = refl
-pruned-all f zero (shard ∷ shards) all = absurd (omega (arith, all))
-pruned-all f (suc i) [] all = refl
-pruned-all f (suc i) (shard ∷ shards) all = let rest : i ≡ length shards = omega (arith, all) in ap (λ rest. pruned shard f ∷ rest) (pruned-all f i shards rest)

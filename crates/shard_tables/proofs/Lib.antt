@@ -1,4 +1,3 @@
 pub mod Ascent
 pub mod Asking
 pub mod CellSteps
-pub mod EmptyShards

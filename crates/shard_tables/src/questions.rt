@@ -1,7 +1,7 @@
-ghost use Rattle.std.specs.Prelude.{◌≡◌, ◌<◌, nat_lt, map as mapped, length, IsTrue, IfOk, OnOk};
+ghost use Rattle.std.specs.Prelude.{◌≡◌, ◌<◌, nat_lt, length, IsTrue, IfOk, OnOk};
 ghost use Rattle.std.specs.List.{list_all};
+ghost use Rattle.shard_state.specs.calls.Sharing.{all_pruned};
 ghost use Rattle.shard_state.specs.calls.Viewing.{CanBeViewed};
-ghost use Rattle.shard_state.specs.meaning.Shards.{pruned};
 ghost use Rattle.shard_tables.specs.calls.Asking.{TellWindow};
 
 use crate::case::{CaseFault, field, stamp, vertex};
@@ -9,6 +9,7 @@ use crate::showing::{show_fetched, show_pair};
 use crate::vertices::ascending_vertices;
 use graph_types::{GraphView, Stamp, VertexId};
 use group_window::Window;
+use shard_state::sharing::prune_all;
 use shard_state::{OwnedView, Shard, apply_parts};
 use std::alloc::Global;
 use std::fmt::Write;
@@ -38,19 +39,11 @@ pub fn take(
 
 /// `prune TIMESTAMP`: shows the floor of each shard then, and the timestamp of the last part that it took in.
 pub fn prune(shards: &mut [Shard], floor: Stamp, answer: &mut String) -> Result<(), CaseFault>
-    ensures { OnOk result (shards.new ≡ mapped (λ shard. pruned shard floor) shards.old) }
+    ensures { OnOk result (shards.new ≡ all_pruned floor shards.old) }
 {
-    prune_each(shards, floor);
+    prune_all(shards, floor);
     answer.push_str("pruned")?;
     show_floors(shards, answer)
-}
-
-fn prune_each(shards: &mut [Shard], floor: Stamp)
-    ensures { shards.new ≡ mapped (λ shard. pruned shard floor) shards.old }
-{
-    for i in 0..shards.len() {
-        shards[i].prune(floor);
-    }
 }
 
 fn show_floors(shards: &[Shard], answer: &mut String) -> Result<(), CaseFault> {

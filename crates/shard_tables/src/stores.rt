@@ -1,5 +1,5 @@
-ghost use Rattle.std.specs.Prelude.{◌≡◌, IfOk};
-ghost use Rattle.shard_tables.specs.calls.Asking.{TellWindow, empty_shards};
+ghost use Rattle.std.specs.Prelude.{IfOk};
+ghost use Rattle.shard_tables.specs.calls.Asking.{TellWindow};
 
 use crate::case::{CaseFault, field, shard_count, stamp};
 use crate::groups::groups;
@@ -8,6 +8,7 @@ use crate::showing::separate;
 use group_window::Window;
 use line_fields::Names;
 use shard_state::Shard;
+use shard_state::sharing::make_shards;
 use std::alloc::Global;
 
 /// `COUNT / STEP / STEP .. ; QUESTION / QUESTION ..`: a window of the groups that the steps make, and so many shards
@@ -26,19 +27,8 @@ pub fn store(
     };
     let count = shard_count(word)?;
     let window = groups(alloc, names, count, steps)?;
-    let mut shards = empty(alloc, count)?;
+    let mut shards = make_shards(alloc, count)?;
     ask_all(alloc, &window, &mut shards, questions, answer)
-}
-
-/// So many shards, without a vertex.
-fn empty(alloc: Global, count: u32) -> Result<Vec<Shard>, CaseFault>
-    ensures { IfOk result (λ shards. shards.items ≡ empty_shards count) }
-{
-    let mut shards = Vec::new(alloc);
-    for number in 0..count {
-        shards.push(Shard::empty(alloc, number, count))?;
-    }
-    Ok(shards)
 }
 
 fn ask_all(

@@ -1,4 +1,3 @@
 -- What the calls do.
 pub mod Filling
-pub mod Sharing
 pub mod Passing

@@ -1,8 +1,7 @@
 //! What the groups of a window changed, fetched as it was around each of them.
 ghost use Rattle.std.specs.Prelude.{length};
-ghost use Rattle.store_bench.specs.calls.Sharing.{HaveTaken};
+ghost use Rattle.shard_state.specs.calls.Sharing.{TellGroups};
 
-use crate::window::stamp_after;
 use graph_types::{GraphView, LabelId, Net, Pair, VertexId};
 use group_window::Window;
 use shard_state::{OwnedView, Shard};
@@ -52,10 +51,10 @@ pub fn look(
     window: &Window,
     seen: &mut Seen,
 ) -> Result<(), AllocError>
-    requires { HaveTaken window.now (length window.now.later) shards.now }
+    requires { TellGroups window.now (length window.now.later) 0 shards.now }
 {
     for group in 0..window.len() {
-        let mut view = OwnedView::new(shards, stamp_after(window, group + 1));
+        let mut view = OwnedView::new(shards, window.stamp_after(group + 1));
         look_at(alloc, &mut view, window.net(group), seen)?;
     }
     Ok(())

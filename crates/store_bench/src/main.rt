@@ -8,7 +8,6 @@
 
 mod looking;
 mod passing;
-mod sharing;
 mod tally;
 mod window;
 

@@ -1,15 +1,16 @@
 //! Windows that pass through a store one after another.
-ghost use Rattle.std.specs.Prelude.{◌≡◌, ◌+◌, ◌≤◌, ◌^◌, IfOk, OnOk};
-ghost use Rattle.store_bench.specs.calls.Sharing.{Keep};
+ghost use Rattle.std.specs.Prelude.{◌+◌, ◌≤◌, ◌^◌, IfOk, OnOk, length};
+ghost use Rattle.shard_state.specs.calls.Sharing.{TellGroups};
 ghost use Rattle.store_bench.specs.calls.Passing.{KeepsUpTo};
 
 use crate::looking::{Seen, look};
-use crate::sharing::{empty_shards, prune_each, take_in};
 use crate::tally::Tally;
-use crate::window::{fill, stamp_after};
+use crate::window::{SHARDS, fill};
 use bench_streams::Stream;
 use graph_types::{Snapshot, Stamp};
+use group_window::Window;
 use shard_state::Shard;
+use shard_state::sharing::{make_shards, prune_all, take_in};
 use std::alloc::{AllocError, Global};
 use std::io;
 use std::time::CpuClock;
@@ -27,11 +28,11 @@ impl Store {
     pub fn new(alloc: Global) -> Result<Store, AllocError>
         ensures { IfOk result (λ store. KeepsUpTo 0 store) }
     {
-        let shards = empty_shards(alloc)?;
-        let graph = Snapshot::new(alloc);
-        graph.simple();
+        let Ok(shards) = make_shards(alloc, SHARDS) else {
+            return Err(AllocError);
+        };
         Ok(Store {
-            graph,
+            graph: Snapshot::new(alloc),
             shards,
             at: Stamp(0),
         })
@@ -132,7 +133,7 @@ fn pass_window(
         return Ok(());
     }
     let start = cpu_nanos(rt)?;
-    take_in(&mut store.shards, &window)?;
+    take_groups(&mut store.shards, &window)?;
     work.times.apply = since(rt, work.times.apply, start)?;
     if looks {
         let start = cpu_nanos(rt)?;
@@ -140,9 +141,22 @@ fn pass_window(
         work.times.fetch = since(rt, work.times.fetch, start)?;
     }
     let start = cpu_nanos(rt)?;
-    let last = stamp_after(&window, window.len());
-    prune_each(&mut store.shards, last);
+    let last = window.stamp_after(window.len());
+    prune_all(&mut store.shards, last);
     store.at = last;
     work.times.prune = since(rt, work.times.prune, start)?;
+    Ok(())
+}
+
+/// Takes in all groups of the window.
+fn take_groups(shards: &mut [Shard], window: &Window) -> Result<(), AllocError>
+    requires { TellGroups window.now 0 0 shards.old }
+    ensures { OnOk result (TellGroups window.now (length window.now.later) 0 shards.new) }
+{
+    for group in 0..window.len() {
+        let Ok(()) = take_in(shards, window, group) else {
+            return Err(AllocError);
+        };
+    }
     Ok(())
 }

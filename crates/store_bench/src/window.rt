@@ -1,5 +1,5 @@
 //! Windows of updates, each a group of its own.
-ghost use Rattle.std.specs.Prelude.{◌≡◌, ◌+◌, ◌-◌, ◌≤◌, ◌^◌, ℕ, IfOk, OnOk};
+ghost use Rattle.std.specs.Prelude.{◌+◌, ◌-◌, ◌≤◌, ◌^◌, ℕ, IfOk, OnOk};
 ghost use Rattle.graph_types.specs.meaning.Graph.{Graph};
 ghost use Rattle.group_window.specs.meaning.Windows.{CanPush};
 ghost use Rattle.store_bench.specs.calls.Filling.{IsFilled};
@@ -53,12 +53,4 @@ fn push(
     }
     graph.simple();
     Ok(())
-}
-
-/// The timestamp after so many groups.
-pub fn stamp_after(window: &Window, groups: usize) -> Stamp
-    requires { window.now.first + groups ≤ 10 ^ 19 }
-    ensures { result ≡ window.now.first + groups }
-{
-    Stamp(window.first().0 + groups as u64)
 }

@@ -4,5 +4,6 @@ pub mod Places
 pub mod Differing
 pub mod NetOfChanges
 pub mod PartsOfChanges
+pub mod PartsOfTwo
 pub mod Writing
 pub mod Stepping

@@ -7,7 +7,8 @@ use Rattle.std.specs.List.{AllByRecursion, range_with_len}
 use Rattle.std.specs.List.Sorted.{IsStrictlySortedBy}
 use Rattle.std.specs.Map.{keys_of, lookup}
 use Rattle.std.specs.Option.{is_some}
-use Rattle.std.specs.Ordering.{nat_cmp}
+use Rattle.std.specs.Ordering.{eq_by_cmp, nat_cmp}
+use Rattle.std.specs.Set.{is_member}
 use Rattle.std.specs.declared.cmp.Ordering.TheVariants.{Less}
 use Rattle.std.proofs.lemmas.Bool.{false≢true, eqb-true, cases_eq}
 use Rattle.std.proofs.lemmas.Bool.Decides.{nat_tests}
@@ -77,6 +78,19 @@ module _ (shards : ℕ) where
         | false ↦ λ _ t. below_shards some s changes t
       ] refl h
 
+  module _ (changes : List Change) (some : 1 ≤ shards) where
+    -- the parts of the shards that have changes, where these ascend
+    pub parts-given : (which : List ℕ) → IsStrictlySortedBy nat_cmp which → ((s : ℕ) → is_member (eq_by_cmp nat_cmp) which s ≡ is_some_list (in_shard shards s changes)) →
+        map (part_of shards changes) which ≡ parts_of shards changes
+    parts-given which ascending members =
+        let has : ℕ → Bool = λ s. is_some_list (in_shard shards s changes) in
+        ap (map (part_of shards changes))
+        (same_list nat_cmp_total finite.nat_cmp-IsAntisymmetric has which (filter has (range_with_len 0 shards))
+        (record { ascending = ascending; members = members })
+        (Lists-passing nat_cmp_total finite.nat_cmp-IsAntisymmetric has (range_with_len 0 shards) (range_rise 0 shards)
+        (λ s t. member-from_in nat_cmp_total finite.nat_cmp-IsAntisymmetric s (range_with_len 0 shards) (IsIn-range 0 shards s (omega arith) (omega (arith, below_shards some s changes t))))))
+        ∙ map-filter (part_of shards changes) (λ part. is_some_list part.changes) (range_with_len 0 shards)
+
   some_is : (xs ys : List Change) → some_list xs ≡ Some ys → xs ≡ ys
   some_is [] ys e = cc
   some_is (x ∷ xs) ys e = cc
@@ -89,13 +103,7 @@ module _ (shards : ℕ) where
   pub parts-listed : (map_of : BTreeMap ℕ (List Change)) (changes : List Change) → 1 ≤ shards → IsStrictlySortedBy nat_cmp (keys_of map_of.entries) → AreShared shards map_of changes
       → map (λ e. record { shard = e.0; changes = e.1 }) map_of.entries ≡ parts_of shards changes
   parts-listed map_of changes some ordered shared =
-      let has : ℕ → Bool = λ s. is_some_list (in_shard shards s changes) in
       let made : ℕ → List Change → Part = λ s cs. record { shard = s; changes = cs } in
       map-entries (λ _ _. true) made (λ s. in_shard shards s changes) map_of.entries
       (all-weaker (λ e. lookup (is_at (nat_cmp e.0)) map_of.entries ≡ Some e.1) (λ e. in_shard shards e.0 changes ≡ e.1) (λ e is. some_is _ _ (sym (shared e.0) ∙ is)) map_of.entries (own-lookups nat_cmp_total map_of.entries ordered))
-      ∙ ap (map (part_of shards changes))
-      (same_list nat_cmp_total finite.nat_cmp-IsAntisymmetric has (keys_of map_of.entries) (filter has (range_with_len 0 shards))
-      (record { ascending = ordered; members = λ s. member-lookup nat_cmp_total map_of.entries ordered s ∙ ap is_some (shared s) ∙ some_told (in_shard shards s changes) })
-      (Lists-passing nat_cmp_total finite.nat_cmp-IsAntisymmetric has (range_with_len 0 shards) (range_rise 0 shards)
-      (λ s t. member-from_in nat_cmp_total finite.nat_cmp-IsAntisymmetric s (range_with_len 0 shards) (IsIn-range 0 shards s (omega arith) (omega (arith, below_shards some s changes t))))))
-      ∙ map-filter (part_of shards changes) (λ part. is_some_list part.changes) (range_with_len 0 shards)
+      ∙ parts-given changes some (keys_of map_of.entries) ordered (λ s. member-lookup nat_cmp_total map_of.entries ordered s ∙ ap is_some (shared s) ∙ some_told (in_shard shards s changes))

@@ -43,12 +43,83 @@ pub fn parts(
 }
 
 /// The changes of each shard that has some. Takes a look-up among the shards that have changes for each
-/// change.
+/// change, and constant time for the two of an edge.
 pub fn parts_of_changes(
     alloc: Global,
     changes: &[Change],
     shards: u32,
 ) -> Result<PartList, NoMemory>
+    requires { 1 ≤ shards }
+    ensures { IfOk result (λ parts. parts ≡ parts_of shards changes.now) }
+{
+    match changes {
+        [first, second] => parts_of_two(alloc, first, second, shards),
+        _ => parts_by_shard(alloc, changes, shards),
+    }
+}
+
+/// The two changes that an edge brings, which most updates come to.
+fn parts_of_two(
+    alloc: Global,
+    first: &Change,
+    second: &Change,
+    shards: u32,
+) -> Result<PartList, NoMemory>
+    requires { 1 ≤ shards }
+    ensures { IfOk result (λ parts. parts ≡ parts_of shards (first.now ∷ second.now ∷ [])) }
+{
+    let at = vertex(first).0 % shards;
+    let other = vertex(second).0 % shards;
+    if at == other {
+        return one_part(alloc, at, first, second);
+    }
+    if at < other {
+        return two_parts(alloc, at, first, other, second);
+    }
+    two_parts(alloc, other, second, at, first)
+}
+
+fn one_part(
+    alloc: Global,
+    shard: u32,
+    first: &Change,
+    second: &Change,
+) -> Result<PartList, NoMemory>
+    ensures { IfOk result (λ parts. parts ≡ record { shard = shard; changes = first.now ∷ second.now ∷ [] } ∷ []) }
+{
+    let mut parts = PartList::new(alloc);
+    let changes = with_change(one_change(alloc, first)?, second)?;
+    parts.push(Part { shard, changes })?;
+    Ok(parts)
+}
+
+fn two_parts(
+    alloc: Global,
+    at: u32,
+    first: &Change,
+    other: u32,
+    second: &Change,
+) -> Result<PartList, NoMemory>
+    ensures { IfOk result (λ parts. parts ≡ record { shard = at; changes = first.now ∷ [] } ∷ record { shard = other; changes = second.now ∷ [] } ∷ []) }
+{
+    let mut parts = PartList::new(alloc);
+    let changes = one_change(alloc, first)?;
+    parts.push(Part { shard: at, changes })?;
+    let changes = one_change(alloc, second)?;
+    parts.push(Part {
+        shard: other,
+        changes,
+    })?;
+    Ok(parts)
+}
+
+fn one_change(alloc: Global, change: &Change) -> Result<ChangeList, NoMemory>
+    ensures { IfOk result (λ changes. changes ≡ change.now ∷ []) }
+{
+    with_change(ChangeList::new(alloc), change)
+}
+
+fn parts_by_shard(alloc: Global, changes: &[Change], shards: u32) -> Result<PartList, NoMemory>
     requires { 1 ≤ shards }
     ensures { IfOk result (λ parts. parts ≡ parts_of shards changes.now) }
 {

@@ -49,7 +49,7 @@ filter-all p [] passes = refl
 filter-all p (x ∷ xs) passes = λ i. cond (passes.0 i) (x ∷ filter-all p xs passes.1 i) (filter-all p xs passes.1 i)
 
 module _ (near : Tracks) (places : Places) (t : ℕ) where
-  labels-of_places : AllByRecursion (λ e. place_label places e.0 ≡ e.1) (map.entries places)
+  pub labels-of_places : AllByRecursion (λ e. place_label places e.0 ≡ e.1) (map.entries places)
   labels-of_places = all-weaker _ _ (λ e found. ap option_flatten (map.get-entries places e.0 ∙ found)) (map.entries places) (found-all (map.entries places) (keys_rise places))
 
   edges-around : (es : List (ℕ × Option ℕ)) → AllByRecursion (λ e. place_label places e.0 ≡ e.1) es → mapped (edge_around near t) es ≡ mapped (λ w. edge_around near t (w, place_label places w)) (keys_of es)

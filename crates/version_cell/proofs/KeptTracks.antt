@@ -52,6 +52,9 @@ KeepsTracks-insert m w track same more = record {
   ] refl (sym (ap is_some (map.get-insert nat_cmp_total m w track v)) ∙ has);
 }
 
+pub get-inserted : (m : Tracks) (w : ℕ) (track : Track) → map.get (map.insert m w track) w ≡ Some track
+get-inserted m w track = map.get-insert nat_cmp_total m w track w ∙ ap (λ r. cond (is_eq r) (Some track) (map.get m w)) (tied_itself nat_cmp_total w)
+
 -- a list that is written to
 module _ (es left : List (ℕ × Track)) (w : ℕ) (before after : Track) (was : lookup (is_at (nat_cmp w)) es ≡ Some before)
     (is : (q : ℕ) → lookup (is_at (nat_cmp q)) left ≡ cond (is_at (nat_cmp w) q) (Some after) (lookup (is_at (nat_cmp q)) es)) where
@@ -67,7 +70,15 @@ module _ (es left : List (ℕ × Track)) (w : ℕ) (before after : Track) (was :
       (KeepsTracks-insert (map.from_entries es) w after (same ∙ ap changes_of (sym had)) (subst (λ o. room_of o ≤ after.room) (sym had) more))
 
   pub get-written : map.get (map.from_entries {R = nat_cmp} left) w ≡ Some after
-  get-written =
-      ap (λ m. map.get m w) wrote
-      ∙ map.get-insert nat_cmp_total (map.from_entries {R = nat_cmp} es) w after w
-      ∙ ap (λ r. cond (is_eq r) (Some after) (map.get (map.from_entries {R = nat_cmp} es) w)) (tied_itself nat_cmp_total w)
+  get-written = ap (λ m. map.get m w) wrote ∙ get-inserted (map.from_entries {R = nat_cmp} es) w after
+
+  -- it has a list where it had one
+  pub contains_key-written : (v : ℕ) → map.contains_key (map.from_entries {R = nat_cmp} left) v ≡ map.contains_key (map.from_entries {R = nat_cmp} es) v
+  contains_key-written v =
+      ap (λ m. map.contains_key m v) wrote
+      ∙ ap is_some (map.get-insert nat_cmp_total (map.from_entries {R = nat_cmp} es) w after v)
+      ∙ elim (eq_by_cmp nat_cmp v w) as (λ b. eq_by_cmp nat_cmp v w ≡ b →
+      is_some (cond b (Some after) (map.get (map.from_entries {R = nat_cmp} es) v)) ≡ map.contains_key (map.from_entries {R = nat_cmp} es) v) [
+        | true ↦ λ same. sym (ap is_some (ap (map.get (map.from_entries {R = nat_cmp} es)) (same_item map.nat_cmp-IsAntisymmetric v w same) ∙ had))
+        | false ↦ λ _. refl
+      ] refl

@@ -3,6 +3,8 @@ pub mod Folding
 pub mod PlaceLabels
 pub mod KeptTracks
 pub mod Around
+pub mod MergedLists
+pub mod NoEdges
 pub mod FoldedPlaces
 pub mod Forgetting
 pub mod FoldedCell

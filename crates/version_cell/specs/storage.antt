@@ -3,3 +3,4 @@ pub mod Due
 pub mod Places
 pub mod Around
 pub mod Tracks
+pub mod Merging

@@ -1,10 +1,10 @@
-ghost use Rattle.std.specs.Prelude.{◌≡◌, ◌<◌, ℕ, max, [], IfOk, OnOk};
+ghost use Rattle.std.specs.Prelude.{◌≡◌, ◌<◌, ◌↔◌, ℕ, max, [], IsTrue, IfOk, OnOk};
 ghost use Rattle.std.specs.FinMap as map;
 ghost use Rattle.std.specs.List.Sorted.{IsStrictlySortedBy};
 ghost use Rattle.std.specs.Ordering.{nat_cmp};
 ghost use Rattle.graph_types.specs.meaning.Neighbourhood.{kept_among};
 ghost use Rattle.version_cell.specs.calls.Changing.{IsFolded, KeepsVersions, with_label_change, with_near_change};
-ghost use Rattle.version_cell.specs.meaning.Cell.{changes_of, pair_at, room_of};
+ghost use Rattle.version_cell.specs.meaning.Cell.{HasNothing, changes_of, pair_at, room_of};
 ghost use Rattle.version_cell.specs.meaning.Changes.{IsAfterLast};
 ghost use Rattle.version_cell.specs.meaning.Floor.{IsAboveFloor};
 
@@ -89,9 +89,11 @@ impl Cell {
         ensures kept { KeepsVersions self.old self.new }
         ensures ok { OnOk result (0 < room_of (map.get self.new.near to)) }
     {
+        if tracks::reserve_known(&mut self.near_changes, to)? {
+            return Ok(());
+        }
         places::give_place(&mut self.places, to)?;
-        tracks::give_track(&mut self.near_changes, to, self.alloc)?;
-        tracks::reserve_track(&mut self.near_changes, to)
+        tracks::give_track(&mut self.near_changes, to, self.alloc)
     }
 
     /// Notes what the label became at a timestamp. It takes no memory, and constant time.
@@ -119,9 +121,8 @@ impl Cell {
     }
 
     /// What the vertex has before and after a timestamp above the floor: its label, and its neighbours,
-    /// ascending, each joined with it before or after. Takes time linear in the number of places, each with
-    /// a look-up among the changed neighbours, and in the number of changes up to then. Only the answer takes
-    /// memory.
+    /// ascending, each joined with it before or after. Takes time linear in the number of places and in that
+    /// of the changes up to then. Only the answer takes memory.
     pub fn pair(&self, alloc: Global, t: Stamp) -> Result<Pair, NoMemory>
         requires { self.now.floor < t }
         ensures { IfOk result (λ pair. pair ≡ pair_at self.now t) }
@@ -153,11 +154,22 @@ impl Cell {
         self.places.len()
     }
 
+    /// Whether nothing stands in it and nothing changed, and no room was made for an edge. Takes constant time
+    /// where that is so, or where the vertex has a label or changed.
+    pub fn is_empty(&self) -> bool
+        ensures { IsTrue result ↔ HasNothing self.now }
+    {
+        if self.label.is_some() || self.label_changes.has_some() {
+            return false;
+        }
+        self.near_changes.is_empty() && places::has_no_edge(&self.places)
+    }
+
     /// Takes up the changes to a timestamp: the floor is the greater of both then, and what stands after the
     /// floor, and at each later timestamp, is what it was. Of what came before nothing is kept. It takes no
     /// memory. Takes time linear in the number of the changes that it takes up and of the neighbours that
-    /// changed since the floor, each with a look-up, but not in the number of all neighbours. What was reserved
-    /// for an edge, and not used, may go.
+    /// changed since the floor, each with a look-up, but not in the number of all neighbours. What was reserved,
+    /// and not used, may go.
     pub fn fold_to(&mut self, t: Stamp)
         ensures folded { IsFolded self.old t self.new }
         ensures pairs { (later : ℕ) → max self.old.floor t < later → pair_at self.new later ≡ pair_at self.old later }

@@ -1,10 +1,11 @@
-ghost use Rattle.std.specs.Prelude.{◌≡◌, ◌-◌, ◌<◌, ◌≤◌, [], OnOk};
+ghost use Rattle.std.specs.Prelude.{◌≡◌, ◌-◌, ◌<◌, ◌≤◌, [], Some, OnOk};
 ghost use Rattle.version_cell.specs.meaning.Changes.{changes_after, label_after, with_change};
+ghost use Rattle.version_cell.specs.storage.Around.{edge_with};
 ghost use Rattle.version_cell.specs.storage.Due.{begins_by};
 ghost use Rattle.version_cell.specs.storage.Tracks.{is_changed};
 
 use crate::Change;
-use graph_types::{LabelId, NoMemory, Stamp};
+use graph_types::{LabelId, Near, NoMemory, Stamp, VertexId};
 use std::alloc::Global;
 use std::collections::VecDeque;
 use std::marker::Model;
@@ -70,18 +71,34 @@ impl Changes {
         label
     }
 
+    /// The edge to a vertex with these changes before and after a timestamp, from its label at the floor.
+    pub fn around(&self, to: VertexId, at_floor: &Option<LabelId>, t: Stamp) -> Near
+        requires { 0 < t }
+        ensures { result ≡ edge_with (Some self.now) t (to, at_floor.now) }
+    {
+        Near {
+            to,
+            before: self.label_after(*at_floor, previous(t)),
+            after: self.label_after(*at_floor, t),
+        }
+    }
+
     /// Takes out the changes up to a timestamp, and answers the label then, from that at the floor. Takes
-    /// time linear in the number of these changes, and no memory.
+    /// time linear in the number of these changes, and no memory. Where no change is left it gives its memory
+    /// back.
     pub fn fold_to(&mut self, at_floor: Option<LabelId>, t: Stamp) -> Option<LabelId>
         ensures label { result ≡ label_after at_floor self.old.changes t }
         ensures rest { self.new.changes ≡ changes_after self.old.changes t }
-        ensures kept { self.old.room ≤ self.new.room }
     {
         let mut label = at_floor;
         while is_due(&self.items, t) {
             if let Some(change) = self.items.pop_front() {
                 label = change.label;
             }
+        }
+        // Most labels change seldom, so room that stays would be most of what there is.
+        if self.items.is_empty() {
+            self.items.shrink_to_fit();
         }
         label
     }
@@ -96,7 +113,8 @@ impl Changes {
         self.has_some()
     }
 
-    fn has_some(&self) -> bool
+    /// Whether there is a change.
+    pub fn has_some(&self) -> bool
         ensures { result ≡ is_changed self.now.changes }
     {
         match self.items.front() {

@@ -1,4 +1,4 @@
-ghost use Rattle.std.specs.Prelude.{◌≡◌, ℕ, IsTrue, OnOk};
+ghost use Rattle.std.specs.Prelude.{◌≡◌, ◌↔◌, ℕ, IsTrue, OnOk};
 ghost use Rattle.std.specs.FinMap as map;
 ghost use Rattle.std.specs.Ordering.{nat_cmp};
 ghost use Rattle.version_cell.specs.meaning.Cell.{changes_of};
@@ -15,6 +15,18 @@ pub(crate) fn floor_label(places: &Neighbours<Option<LabelId>>, to: VertexId) ->
     ensures { result ≡ place_label places.now to }
 {
     *places.get(to)?
+}
+
+/// Whether no edge leads anywhere at the floor. It stops at the first that does.
+pub(crate) fn has_no_edge(places: &Neighbours<Option<LabelId>>) -> bool
+    ensures { IsTrue result ↔ (near_at_floor places.now ≡ map.empty) }
+{
+    for (_, at_floor) in places {
+        if at_floor.is_some() {
+            return false;
+        }
+    }
+    true
 }
 
 /// Gives a vertex a place, where it has none: no edge leads there at the floor.

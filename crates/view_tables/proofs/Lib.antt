@@ -1,2 +1,1 @@
-pub mod Pruning
-pub mod Telling
+pub mod GroupsTaken

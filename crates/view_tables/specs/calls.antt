@@ -1,3 +1,2 @@
 -- What the calls do, by their results.
 pub mod Making
-pub mod Sharing

@@ -1,13 +1,13 @@
 //! What shards tell beside plain snapshots, on one graph after another.
 ghost use Rattle.std.specs.Prelude.{◌≤◌, OnOk};
 ghost use Rattle.shard_state.specs.calls.Viewing.{CanBeViewed};
-ghost use Rattle.view_tables.specs.calls.Sharing.{TellTogether};
+ghost use Rattle.shard_state.specs.calls.Sharing.{TellGroups};
 
 use crate::case::Case;
 use crate::draws::Draws;
 use crate::groups::{History, make_history};
 use crate::outcome::{Outcome, Sums};
-use crate::sharing::{Shards, stamp_after};
+use crate::shards::Shards;
 use graph_types::{
     FetchStop, GraphView, Near, NoMemory, Pair, Snapshot, Stamp, TwoSnapshots, VertexId,
 };
@@ -56,8 +56,8 @@ fn go_on(
     floor: usize,
     sums: &mut Sums,
 ) -> Result<bool, NoMemory>
-    requires { TellTogether history.now.window shards.old.items.items shards.old.taken shards.old.floor }
-    ensures { OnOk result (TellTogether history.now.window shards.new.items.items shards.new.taken shards.new.floor) }
+    requires { TellGroups history.now.window shards.old.taken shards.old.floor shards.old.items.items }
+    ensures { OnOk result (TellGroups history.now.window shards.new.taken shards.new.floor shards.new.items.items) }
 {
     shards.take_in(&history.window, to)?;
     if !compare_each(alloc, case, history, shards, sums)? {
@@ -75,10 +75,10 @@ fn compare_each(
     shards: &Shards,
     sums: &mut Sums,
 ) -> Result<bool, NoMemory>
-    requires { TellTogether history.now.window shards.now.items.items shards.now.taken shards.now.floor }
+    requires { TellGroups history.now.window shards.now.taken shards.now.floor shards.now.items.items }
 {
     for group in shards.floor..shards.taken {
-        let at = stamp_after(&history.window, group + 1);
+        let at = history.window.stamp_after(group + 1);
         let (Some(before), Some(after)) = (history.graphs.get(group), history.graphs.get(group + 1))
         else {
             return Ok(false);

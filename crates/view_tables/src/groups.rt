@@ -49,7 +49,6 @@ fn begin(alloc: Global, shards: u32) -> Result<History, NoMemory>
 {
     let mut window = Window::new(alloc, Stamp(1000), shards);
     let graph = Snapshot::new(alloc);
-    graph.simple();
     window.begin_group();
     window.end_group(&graph)?;
     let mut graphs = List::new(alloc);
@@ -134,7 +133,6 @@ fn end(alloc: Global, history: &mut History) -> Result<(), NoMemory>
     ensures closed { OnOk result (IsClosed history.new.window history.new.graph) }
     ensures shards { history.new.window.shards ≡ history.old.window.shards }
 {
-    history.graph.simple();
     history.window.end_group(&history.graph)?;
     let graph = build(alloc, &history.updates)?;
     history.graphs.push(graph)?;

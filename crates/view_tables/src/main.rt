@@ -9,7 +9,7 @@ mod draws;
 mod graphs;
 mod groups;
 mod outcome;
-mod sharing;
+mod shards;
 
 use case::answer;
 use std::io;

@@ -1,7 +1,9 @@
 -- Windows: graphs that follow one another, and a group that may be open.
-use Rattle.std.specs.Prelude.{◌≡◌, ◌<◌, ◌+◌, ℕ, List, [], ◌∷◌, ◌++◌, length, Option, None, Some, IfSome, unwrap_or, refl}
+use Rattle.std.specs.Prelude.{◌≡◌, ◌<◌, ◌≤◌, ◌+◌, ◌^◌, ℕ, List, [], ◌∷◌, ◌++◌, length, Option, None, Some, IfSome, IsSome, unwrap_or, refl}
 use Rattle.std.specs.Coded.{Coded, code_by, coded×, coded_list, coded_option, coded_ℕ}
+use Rattle.std.specs.List.{AllByRecursion}
 use Rattle.graph_types.specs.meaning.Graph.{Graph, empty_graph, graph_code}
+use Rattle.graph_types.specs.meaning.Simple.{IsSimple}
 use Rattle.mining_model.specs.meaning.History.{graph_at}
 
 -- the most groups of a window, and the most updates of a group
@@ -57,6 +59,16 @@ StandsOn w g = IfSome (came_to w) (λ h. g ≡ h)
 -- the graph after the first i groups, which is the one before group i
 abbrev pub graph_of : WindowValue → ℕ → Graph
 graph_of w i = graph_at (unwrap_or w.base empty_graph) w.later i
+
+-- What is true of each window. Its groups are few, and their timestamps can be counted. Where it has a group it has a graph
+-- to begin with, and all its graphs are simple.
+pub record IsSound (w : WindowValue) : Type 0 where
+  pub some_shard : 1 ≤ w.shards
+  pub early : w.first ≤ 10 ^ 19
+  pub few : length w.later ≤ most_groups
+  pub begun : 0 < length w.later → IsSome w.base
+  pub base : IfSome w.base IsSimple
+  pub later : AllByRecursion IsSimple w.later
 
 abbrev pub update_count : Option RunValue → ℕ
 update_count None = 0

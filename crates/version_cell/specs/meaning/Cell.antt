@@ -1,5 +1,5 @@
 -- One vertex through time.
-use Rattle.std.specs.Prelude.{ℕ, ◌-◌, List, [], ◌++◌, Option, None, Some, refl}
+use Rattle.std.specs.Prelude.{◌≡◌, ℕ, ◌-◌, List, [], ◌++◌, Option, None, Some, refl}
 use Rattle.std.specs.Coded.{Coded, code_by, coded×, coded_list, coded_option, coded_ℕ}
 use Rattle.std.specs.FinMap as map
 use Rattle.std.specs.Ordering.{nat_cmp}
@@ -40,6 +40,13 @@ module _ (cell : Timeline) (t : ℕ) where
 -- what the vertex had before and after timestamp t
 abbrev pub pair_at : Timeline → ℕ → Pair
 pair_at cell t = pair_of (neighbourhood_after cell (t - 1)) (neighbourhood_after cell t)
+
+-- no label and no edge at the floor, and no change since, nor a list for the changes of an edge
+pub record HasNothing (cell : Timeline) : Type 0 where
+  pub label : cell.at_floor.label ≡ None
+  pub near : cell.at_floor.near ≡ map.empty
+  pub label_changes : cell.label.changes ≡ []
+  pub near_changes : cell.near ≡ map.empty
 
 -- changes, tracks, neighbourhoods and timelines are stored as the tuples of their fields
 abbrev pub change_code : Coded Change

@@ -8,14 +8,18 @@ use Rattle.version_cell.specs.meaning.Cell.{changes_of}
 use Rattle.version_cell.specs.meaning.Changes.{Track, label_after}
 use Rattle.version_cell.specs.storage.Places.{Places, place_label}
 
+-- the edge to a vertex before and after timestamp t, from its label at the floor, where these are its changes
+abbrev pub edge_with : Option Track → ℕ → ℕ × Option ℕ → Near
+edge_with track t place = record {
+  to = place.0;
+  before = label_after place.1 (changes_of track) (t - 1);
+  after = label_after place.1 (changes_of track) t;
+}
+
 module _ (near : map.FinMap nat_cmp Track) (t : ℕ) where
-  -- the edge to a vertex before and after timestamp t, from its label at the floor
+  -- the same where its changes are among those of all edges
   abbrev pub edge_around : ℕ × Option ℕ → Near
-  edge_around place = record {
-    to = place.0;
-    before = label_after place.1 (changes_of (map.get near place.0)) (t - 1);
-    after = label_after place.1 (changes_of (map.get near place.0)) t;
-  }
+  edge_around place = edge_with (map.get near place.0) t place
 
   -- the edges that are there before or after timestamp t, from their labels at the floor
   abbrev pub near_of_places : List (ℕ × Option ℕ) → List Near

@@ -1,15 +1,11 @@
 -- Windows whose groups begin with nothing.
-use Rattle.std.specs.Prelude.{◌≡◌, ◌<◌, ◌≤◌, IsSome, None, Some, length}
+use Rattle.std.specs.Prelude.{◌≡◌, ◌<◌, IsSome, None, Some, length}
 use Rattle.graph_types.specs.meaning.Graph.{Graph, empty_graph}
 use Rattle.group_window.specs.meaning.Windows.{StandsOn, WindowValue, most_groups}
-use Rattle.shard_state.specs.meaning.Telling.{AreSimple, graphs_of}
 
--- the groups begin with the empty graph, and each leads to a simple one
-pub record IsBegun (w : WindowValue) : Type 0 where
-  pub first : w.first ≤ 1000
-  pub base : w.base ≡ Some empty_graph
-  pub simple : AreSimple (graphs_of w)
-  pub few : length w.later ≤ most_groups
+-- the groups begin with the empty graph
+abbrev pub IsBegun : WindowValue → Type 0
+IsBegun w = w.base ≡ Some empty_graph
 
 -- it has no open group, and stands on the graph
 pub record IsClosed (w : WindowValue) (g : Graph) : Type 0 where

@@ -8,8 +8,8 @@ loop-v-init c = λ f u stored lower. folding-init f u c.args.floor c.args.cells.
 
 pub loop-v-preserved : goal.loop-v-preserved
 loop-v-preserved c = λ f u stored lower.
-    folding-turned u c.args.floor c.args.cells.now c.loop-v.cells c.fold_once.new.cells c.in-Some.ensures.0 c.in-Some.v c.take_due.new.self.touches c.in-Some.ensures.1
-    (subst (IsFolding u c.args.floor c.args.cells.now c.loop-v.cells) c.in-Some.ensures.2 (c.loop-v.invariant f u stored lower)) c.fold_once.ensures.folds c.fold_once.ensures.rests
+    folding-turned u c.args.floor c.args.cells.now c.loop-v.cells c.fold.new.self c.in-Some.ensures.0 c.in-Some.v c.take_due.new.self.touches c.in-Some.ensures.1
+    (subst (IsFolding u c.args.floor c.args.cells.now c.loop-v.cells) c.in-Some.ensures.2 (c.loop-v.invariant f u stored lower)) c.fold.ensures.folds c.fold.ensures.rests
 
 pub loop-v-smaller : goal.loop-v-smaller
 loop-v-smaller c = touches-fewer c.loop-v.touched.touches c.take_due.new.self.touches _ c.in-Some.ensures.2

@@ -8,4 +8,4 @@ pub returns : goal.returns
 returns c =
     let s = c.self.inside in
     subst (λ (w : WindowValue). c.index.result.now.difference.parts ≡ parts_between (graph_of w c.args.i) (graph_of w (c.args.i + 1)) w.shards) c.self.view_is
-    (told-at s.shards s.groups.items s.current c.args.i c.index.result.now c.self.invariant (subst (λ (w : WindowValue). c.args.i < length w.later) (sym c.self.view_is) c.requires) c.index.ensures).parts
+    (told-at s.first s.shards s.groups.items s.current c.args.i c.index.result.now c.self.invariant (subst (λ (w : WindowValue). c.args.i < length w.later) (sym c.self.view_is) c.requires) c.index.ensures).parts

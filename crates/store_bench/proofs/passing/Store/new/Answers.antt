@@ -1,11 +1,12 @@
-use Rattle.std.proofs.Common.{subst, sym, arith}
-use Rattle.graph_types.specs.meaning.Simple.{IsSimple}
-use Rattle.store_bench.specs.calls.Sharing.{Keep}
-use Rattle.store_bench.proofs.Keeping.{Keep-empty}
+use Rattle.std.proofs.Common.{subst, sym, ap, ◌∙◌, length, arith}
+use Rattle.std.proofs.lemmas.List.FromFn.{length-map-range_with_len}
+use Rattle.shard_state.specs.calls.Sharing.{KeepGraph}
+use Rattle.shard_state.specs.meaning.Shards.{empty_shard}
 use Rattle.store_bench.proofs.passing.Store.new.Goals as goal
 
 pub returns : goal.returns
 returns c = record {
-  keep = subst (λ g. Keep 8 0 g c.in_ok-shards.shards.items) (sym c.new-graph.ensures) (Keep-empty 8 c.in_ok-shards.shards.items c.in_ok-shards.ensures (omega arith) (subst IsSimple c.new-graph.ensures c.simple.ensures));
+  count = ap length c.in-Ok.ensures.empty ∙ length-map-range_with_len (λ number. empty_shard number 8) 0 8;
+  keep = subst (KeepGraph c.in-Ok.shards.items 0) (sym c.new.ensures) (c.in-Ok.ensures.keep 0 (omega arith));
   few = omega arith;
 }

@@ -1,8 +1,0 @@
-use Rattle.std.proofs.Common.{◌≡◌}
-use Rattle.shard_state.specs.meaning.Shards.{pruned}
-use Rattle.view_tables.proofs.Pruning.{first_changed}
-use Rattle.view_tables.proofs.sharing.prune_each.Given as goal
-
--- the first shards are pruned
-abbrev pub invariant-loop-shard : goal.invariant-loop-shard
-invariant-loop-shard l = l.shards ≡ first_changed (λ shard. pruned shard l.stamp) l.shard-index l.fn.shards
