@@ -1,4 +1,5 @@
 -- What is meant.
 pub mod Counts
+pub mod Fits
 pub mod Conditions
 pub mod Written

@@ -1,3 +1,4 @@
+use crate::pattern::Pattern;
 use graph_types::{LabelId, List};
 use sqlite_items::Boxed;
 
@@ -50,4 +51,6 @@ pub enum Cond {
     Not(Boxed<Cond>),
     And(Boxed<Cond>, Boxed<Cond>),
     Or(Boxed<Cond>, Boxed<Cond>),
+    /// The picture is this pattern.
+    Shape(Pattern),
 }

@@ -4,7 +4,9 @@
 mod condition;
 pub mod laws;
 mod limits;
+mod pattern;
 mod size;
 
 pub use condition::{Cond, Factor, FactorList, Op, Term};
+pub use pattern::{Pattern, PatternEdge};
 pub use sqlite_items::Boxed;

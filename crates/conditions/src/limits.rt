@@ -1,16 +1,19 @@
 ghost use Rattle.std.specs.Prelude.{◌≡◌, ◌↔◌, IsTrue, nat_le};
 ghost use Rattle.std.specs.List.{list_all};
 ghost use Rattle.conditions.specs.storage.Size.{IsSizeOf};
-ghost use Rattle.conditions.specs.meaning.Written.{are_numbers_within, is_sum_within, IsWithinLimits, most_times, written_size};
+ghost use Rattle.conditions.specs.meaning.Written.{are_numbers_within, come_in_order, comes_after, is_pair_of, is_pattern_within, is_sum_within, IsWithinLimits, most_times, written_size};
 
 use crate::condition::{Cond, Factor};
-use crate::size::{Size, sum_tokens};
+use crate::pattern::{Pattern, PatternEdge};
+use crate::size::{Size, shape_tokens, sum_tokens};
 
 const MOST_TIMES: u32 = 100;
 
 const MOST_BOUND: u32 = 10_000;
 
 const MOST_FACTORS: usize = 16;
+
+const MOST_PATTERN_VERTICES: usize = 8;
 
 const MOST_DEPTH: u32 = 32;
 
@@ -40,6 +43,7 @@ impl Cond {
             Cond::And(c, d) | Cond::Or(c, d) => {
                 c.get().are_numbers_within() && d.get().are_numbers_within()
             }
+            Cond::Shape(pattern) => pattern.is_within_limits(),
         }
     }
 
@@ -57,6 +61,7 @@ impl Cond {
             Cond::Not(c) => c.get().size().negated(),
             Cond::And(c, d) => c.get().size().and(d.get().size()),
             Cond::Or(c, d) => c.get().size().or(d.get().size()),
+            Cond::Shape(pattern) => Size::of_atom(shape_tokens(pattern)),
         }
     }
 }
@@ -71,4 +76,47 @@ fn are_times_within(sum: &[Factor]) -> bool
     ensures { result ≡ list_all (λ f. nat_le f.times most_times) sum.now }
 {
     sum.iter().all(|f| f.times <= MOST_TIMES)
+}
+
+impl Pattern {
+    /// Whether it is one that a condition of a program may have: 1 to 8 vertices, and each edge once, ascending. Takes
+    /// time linear in its size.
+    pub fn is_within_limits(&self) -> bool
+        ensures { result ≡ is_pattern_within self.now }
+    {
+        let vertices = self.labels.len();
+        1 <= vertices
+            && vertices <= MOST_PATTERN_VERTICES
+            && are_pairs_of(vertices as u32, &self.edges)
+            && come_in_order(&self.edges)
+    }
+}
+
+fn are_pairs_of(vertices: u32, edges: &[PatternEdge]) -> bool
+    ensures { result ≡ list_all (is_pair_of vertices) edges.now }
+{
+    edges
+        .iter()
+        .all(|e| 1 <= e.low && e.low < e.high && e.high <= vertices)
+}
+
+fn come_in_order(edges: &[PatternEdge]) -> bool
+    ensures { result ≡ come_in_order 0 0 edges.now }
+{
+    let mut low = 0;
+    let mut high = 0;
+    for e in edges {
+        if !comes_after(low, high, e) {
+            return false;
+        }
+        low = e.low;
+        high = e.high;
+    }
+    true
+}
+
+fn comes_after(low: u32, high: u32, e: &PatternEdge) -> bool
+    ensures { result ≡ comes_after low high e.now }
+{
+    low < e.low || (low == e.low && high < e.high)
 }

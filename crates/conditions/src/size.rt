@@ -1,7 +1,9 @@
-ghost use Rattle.std.specs.Prelude.{◌≡◌, ◌≤◌, length, sum_by};
-ghost use Rattle.conditions.specs.meaning.Written.{factor_tokens, most_factors, sum_tokens, term_tokens};
+ghost use Rattle.std.specs.Prelude.{◌≡◌, ◌≤◌, IsTrue, length, sum_by};
+ghost use Rattle.conditions.specs.meaning.Written.{factor_tokens, is_pattern_within, most_factors, pair_tokens, shape_tokens, sum_tokens, term_tokens};
 
 use crate::condition::{Factor, Term};
+use crate::pattern::{Pattern, PatternEdge};
+use graph_types::LabelId;
 
 /// Of a condition as it is written with no more parentheses than it needs: how tightly it binds, how many
 /// tokens it has, and how many `not` and parentheses are open in it at once. Counts stop at the last `u32`.
@@ -120,4 +122,28 @@ fn term_tokens(term: Term) -> u32
         Term::Joins(_, _) => 6,
         _ => 1,
     }
+}
+
+/// The tokens of a shape with this pattern.
+pub(crate) fn shape_tokens(pattern: &Pattern) -> u32
+    requires { IsTrue (is_pattern_within pattern.now) }
+    ensures { result ≡ shape_tokens pattern.now }
+{
+    let labels = pattern.labels.len() as u32;
+    let commas = labels.saturating_sub(1) + pattern.edges.len().saturating_sub(1) as u32;
+    4 + labels + tokens_of_pairs(&pattern.edges) + commas
+}
+
+fn tokens_of_pairs(edges: &[PatternEdge]) -> u32
+    requires { length edges.now ≤ 72 }
+    ensures { result ≡ sum_by pair_tokens edges.now }
+{
+    edges.iter().map(pair_tokens).sum()
+}
+
+fn pair_tokens(edge: &PatternEdge) -> u32
+    ensures tokens { result ≡ pair_tokens edge.now }
+    ensures few { result ≤ 3 }
+{
+    if edge.label == LabelId(0) { 2 } else { 3 }
 }

@@ -9,7 +9,7 @@ use Rattle.graph_types.specs.declared.ids.Mode.{Mode}
 use Rattle.graph_types.specs.declared.member.Member.{Member}
 use Rattle.mining_model.specs.meaning.Picture.{picture}
 use Rattle.conditions.specs.declared.condition.Cond.{Cond}
-use Rattle.conditions.specs.declared.condition.Cond.TheOpen.{Cond-F, True, False, Compare, Not, And, Or}
+use Rattle.conditions.specs.declared.condition.Cond.TheOpen.{Cond-F, True, False, Compare, Not, And, Or, Shape}
 use Rattle.conditions.specs.declared.condition.Cond.TheFolds.{map-Cond}
 use Rattle.conditions.specs.declared.condition.Factor.{Factor}
 use Rattle.conditions.specs.declared.condition.Op.{Op}
@@ -96,6 +96,7 @@ module _ (kind : Mode) (q : Graph) (members : List Member) (all : All (IsOfMode 
       (λ c p. at_form (Not c) (turned _ _ _ _ p))
       (λ c d p q. at_form (And c d) (both _ _ _ _ _ _ _ _ p q))
       (λ c d p q. at_form (Or c d) (either _ _ _ _ _ _ _ _ p q))
+      (λ s. at_form (Shape s) (record { forth = λ falls _. absurd (false≢true falls); back = λ rises _. absurd (false≢true rises) }))
 
   pub falling_passes : (c : Cond) → IsTrue (is_falling kind c) → IsTrue (holds c q) → IsTrue (holds c (picture q members))
   falling_passes c f h = (passes c).forth f h

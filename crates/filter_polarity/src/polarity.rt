@@ -28,6 +28,7 @@ fn is_falling(mode: Mode, cond: &Cond) -> bool
         Cond::Compare { sum, op, bound: _ } => bounds_above(*op) && is_rising_sum(mode, sum),
         Cond::Not(c) => is_rising(mode, c.get()),
         Cond::And(c, d) | Cond::Or(c, d) => is_falling(mode, c.get()) && is_falling(mode, d.get()),
+        Cond::Shape(_) => false,
     }
 }
 
@@ -40,6 +41,7 @@ fn is_rising(mode: Mode, cond: &Cond) -> bool
         Cond::Compare { sum, op, bound: _ } => bounds_below(*op) && is_rising_sum(mode, sum),
         Cond::Not(c) => is_falling(mode, c.get()),
         Cond::And(c, d) | Cond::Or(c, d) => is_rising(mode, c.get()) && is_rising(mode, d.get()),
+        Cond::Shape(_) => false,
     }
 }
 

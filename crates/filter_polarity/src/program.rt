@@ -1,19 +1,22 @@
-ghost use Rattle.std.specs.Prelude.{◌≡◌, ◌≤◌};
+ghost use Rattle.std.specs.Prelude.{◌≡◌, ◌≤◌, ◌||◌};
 ghost use Rattle.graph_types.specs.meaning.Piece.{most_members};
 ghost use Rattle.filter_polarity.specs.meaning.Program.{IsProgram};
 ghost use Rattle.conditions.specs.meaning.Written.{IsWithinLimits};
+ghost use Rattle.label_needs.specs.meaning.Needs.{needs_vertex_labels};
 ghost use Rattle.shape_bounds.specs.meaning.Outcomes.{outcome_of};
 
 use crate::falling_cond::Falling;
 use conditions::Cond;
 use graph_types::Mode;
+use label_needs::needs_vertex_labels;
 use shape_bounds::{Outcome, Outlook};
 use std::marker::Model;
 
 /// What to mine: pieces of one mode, up to a size, with a filter that every picture on the way has to pass
 /// and a condition that the pieces to be told have to match.
 ///
-/// It keeps what the numbers of vertices and edges alone say of both, so that a search need not ask the conditions.
+/// It keeps what the numbers of vertices and edges alone say of both, and whether they need labels of vertices, so that a
+/// search need not ask the conditions.
 #[derive(Debug, Drop)]
 pub struct Program {
     size: u8,
@@ -21,6 +24,7 @@ pub struct Program {
     matching: Cond,
     filter_outlook: Outlook,
     matching_outlook: Outlook,
+    needs_labels: bool,
 }
 
 impl Model for Program {
@@ -45,7 +49,7 @@ impl Model for Program {
       size = p.size;
       filter = p.filter.cond;
       matching = p.matching;
-    }) p.filter_outlook p.matching_outlook };
+    }) p.filter_outlook p.matching_outlook p.needs_labels };
 }
 
 impl Program {
@@ -66,12 +70,14 @@ impl Program {
         // By this call the filter tells that it falls.
         let filter_outlook = Outlook::of(filter.cond());
         let matching_outlook = Outlook::of(&matching);
+        let needs_labels = either_needs_labels(filter.cond(), &matching);
         Program {
             size,
             filter,
             matching,
             filter_outlook,
             matching_outlook,
+            needs_labels,
         }
     }
 
@@ -108,6 +114,13 @@ impl Program {
         &self.matching
     }
 
+    /// Whether the labels of vertices mean anything to one of its conditions.
+    pub fn needs_vertex_labels(&self) -> bool
+        ensures { result ≡ (needs_vertex_labels self.now.filter || needs_vertex_labels self.now.matching) }
+    {
+        self.needs_labels
+    }
+
     /// What the filter is of each simple graph with so many vertices and edges, in constant time.
     pub fn filter_outcome(&self, vertices: usize, edges: usize) -> Outcome
         requires few_vertices { vertices ≤ 9 }
@@ -126,4 +139,10 @@ impl Program {
     {
         self.matching_outlook.outcome(vertices, edges)
     }
+}
+
+fn either_needs_labels(filter: &Cond, matching: &Cond) -> bool
+    ensures { result ≡ (needs_vertex_labels filter.now || needs_vertex_labels matching.now) }
+{
+    needs_vertex_labels(filter) || needs_vertex_labels(matching)
 }

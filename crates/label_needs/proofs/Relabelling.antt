@@ -6,7 +6,7 @@ use Rattle.std.proofs.lemmas.List.Sums.{sum_by-cons}
 use Rattle.std.proofs.lemmas.List.{length-map}
 use Rattle.graph_types.specs.meaning.Graph.{Graph, edge_between, ends_at}
 use Rattle.conditions.specs.declared.condition.Cond.{Cond}
-use Rattle.conditions.specs.declared.condition.Cond.TheOpen.{Cond-F, True, False, Compare, Not, And, Or}
+use Rattle.conditions.specs.declared.condition.Cond.TheOpen.{Cond-F, True, False, Compare, Not, And, Or, Shape}
 use Rattle.conditions.specs.declared.condition.Cond.TheFolds.{map-Cond}
 use Rattle.conditions.specs.declared.condition.Factor.{Factor}
 use Rattle.conditions.specs.declared.condition.Term.{Term}
@@ -62,3 +62,4 @@ module _ (g h : Graph) (alike : AreAlike g h) where
       (λ c p. at_form (Not c) (λ free. ap not (p free)))
       (λ c d p q. at_form (And c d) (λ free i. p (left_of _ _ free) i && q (right_of _ _ free) i))
       (λ c d p q. at_form (Or c d) (λ free i. p (left_of _ _ free) i || q (right_of _ _ free) i))
+      (λ s. at_form (Shape s) (λ free. absurd (true≢false free)))

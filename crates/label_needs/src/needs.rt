@@ -3,7 +3,7 @@ ghost use Rattle.label_needs.specs.meaning.Needs.{needs_vertex_labels, sum_needs
 
 use conditions::{Cond, Factor, Term};
 
-/// Whether a condition names a term that looks at labels of vertices. Takes time linear in the condition's size.
+/// Whether a condition names a term that looks at labels of vertices, or a shape. Takes time linear in the condition's size.
 pub fn needs_vertex_labels(cond: &Cond) -> bool
     ensures { result ≡ needs_vertex_labels cond.now }
 {
@@ -18,6 +18,7 @@ pub fn needs_vertex_labels(cond: &Cond) -> bool
         Cond::And(c, d) | Cond::Or(c, d) => {
             needs_vertex_labels(c.get()) || needs_vertex_labels(d.get())
         }
+        Cond::Shape(_) => true,
     }
 }
 

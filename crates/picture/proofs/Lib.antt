@@ -5,3 +5,4 @@ pub mod Stored
 pub mod Places
 pub mod Drawings
 pub mod Connecting
+pub mod Counted

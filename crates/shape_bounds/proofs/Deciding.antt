@@ -5,13 +5,14 @@ use Rattle.std.proofs.lemmas.List.Sums.{sum_by-cons}
 use Rattle.graph_types.specs.meaning.Graph.{Graph, edges_of, vertices_of}
 use Rattle.graph_types.specs.meaning.Simple.{IsSimple}
 use Rattle.conditions.specs.declared.condition.Cond.{Cond}
-use Rattle.conditions.specs.declared.condition.Cond.TheOpen.{Cond-F, True, False, Compare, Not, And, Or}
+use Rattle.conditions.specs.declared.condition.Cond.TheOpen.{Cond-F, True, False, Compare, Not, And, Or, Shape}
 use Rattle.conditions.specs.declared.condition.Cond.TheFolds.{map-Cond}
 use Rattle.conditions.specs.declared.condition.Factor.{Factor}
 use Rattle.conditions.specs.declared.condition.Term.{Term}
 use Rattle.conditions.specs.meaning.Conditions.{holds, holds_by, sum_value}
 use Rattle.conditions.specs.meaning.Counts.{term_count}
 use Rattle.conditions.proofs.Forms.{by_form, fold-form, of_form}
+use Rattle.conditions.proofs.Orders.{shape_counts}
 use Rattle.shape_bounds.specs.meaning.Bounds.{least_count, least_value, most_count, most_value, value_by}
 use Rattle.shape_bounds.specs.declared.outcome.Outcome.{Outcome}
 use Rattle.shape_bounds.specs.declared.outcome.Outcome.TheVariants as outcome
@@ -118,6 +119,7 @@ module _ (g : Graph) (simple : IsSimple g) where
       (λ c p. at_form (Not c) (turned _ _ p))
       (λ c d p q. at_form (And c d) (both _ _ _ _ p q))
       (λ c d p q. at_form (Or c d) (either _ _ _ _ p q))
+      (λ s. at_form (Shape s) (record { when_true = shape_counts s g; when_false = λ _. refl }))
 
   -- what holds may hold, and what fails may fail
   pub may_hold_where_holds : (c : Cond) → IsTrue (holds c g) → IsTrue (may_hold c n m)

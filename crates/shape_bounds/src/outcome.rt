@@ -1,9 +1,9 @@
-ghost use Rattle.std.specs.Prelude.{◌≡◌, ◌≤◌, IsTrue};
+ghost use Rattle.std.specs.Prelude.{◌≡◌, ◌≤◌, ◌&&◌, IsTrue, eqb, length};
 ghost use Rattle.conditions.specs.meaning.Written.{are_numbers_within};
 ghost use Rattle.shape_bounds.specs.meaning.Outcomes.{comparison_may_hold, may_fail, may_hold, opposite, outcome_of};
 
 use crate::sums::{Bounds, sum_bounds};
-use conditions::{Cond, Op};
+use conditions::{Cond, Op, Pattern};
 
 /// What a condition is of all simple graphs with so many vertices and edges.
 #[derive(Clone, Copy, Debug, PartialEq, Eq)]
@@ -49,6 +49,7 @@ pub fn may_hold(cond: &Cond, vertices: u32, edges: u32) -> bool
         Cond::Not(c) => may_fail(c.get(), vertices, edges),
         Cond::And(c, d) => may_hold(c.get(), vertices, edges) && may_hold(d.get(), vertices, edges),
         Cond::Or(c, d) => may_hold(c.get(), vertices, edges) || may_hold(d.get(), vertices, edges),
+        Cond::Shape(pattern) => has_counts(pattern, vertices, edges),
     }
 }
 
@@ -70,7 +71,15 @@ pub fn may_fail(cond: &Cond, vertices: u32, edges: u32) -> bool
         Cond::Not(c) => may_hold(c.get(), vertices, edges),
         Cond::And(c, d) => may_fail(c.get(), vertices, edges) || may_fail(d.get(), vertices, edges),
         Cond::Or(c, d) => may_fail(c.get(), vertices, edges) && may_fail(d.get(), vertices, edges),
+        Cond::Shape(_) => true,
     }
+}
+
+/// Whether a pattern has so many vertices and edges.
+fn has_counts(pattern: &Pattern, vertices: u32, edges: u32) -> bool
+    ensures { result ≡ (eqb vertices (length pattern.now.labels) && eqb edges (length pattern.now.edges)) }
+{
+    vertices as usize == pattern.labels.len() && edges as usize == pattern.edges.len()
 }
 
 /// Whether some number between these of a sum compares so with the bound.

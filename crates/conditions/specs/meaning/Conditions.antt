@@ -2,11 +2,12 @@
 use Rattle.std.specs.Prelude.{ℕ, ◌*◌, Bool, true, false, not, ◌&&◌, ◌||◌, eqb, nat_lt, nat_le, List, sum_by}
 use Rattle.graph_types.specs.meaning.Graph.{Graph}
 use Rattle.conditions.specs.declared.condition.Cond.{Cond, fold-Cond}
-use Rattle.conditions.specs.declared.condition.Cond.TheOpen.{Cond-F, True, False, Compare, Not, And, Or}
+use Rattle.conditions.specs.declared.condition.Cond.TheOpen.{Cond-F, True, False, Compare, Not, And, Or, Shape}
 use Rattle.conditions.specs.declared.condition.Factor.{Factor}
 use Rattle.conditions.specs.declared.condition.Op.{Op}
 use Rattle.conditions.specs.declared.condition.Op.TheVariants.{AtMost, Below, AtLeast, Above, Equal, Unequal}
 use Rattle.conditions.specs.meaning.Counts.{term_count}
+use Rattle.conditions.specs.meaning.Fits.{has_shape}
 
 -- the sum of what the factors' terms count, each as often as its factor says
 abbrev pub sum_value : List Factor → Graph → ℕ
@@ -29,6 +30,7 @@ holds_by (Compare sum op bound) g = comparison_holds op (sum_value sum g) bound
 holds_by (Not c) g = not (c g)
 holds_by (And c d) g = c g && d g
 holds_by (Or c d) g = c g || d g
+holds_by (Shape s) g = has_shape s g
 
 abbrev pub holds : Cond → Graph → Bool
 holds c = fold-Cond (Graph → Bool) holds_by c

@@ -4,7 +4,7 @@ use Rattle.std.specs.List.{list_all}
 use Rattle.graph_types.specs.declared.ids.Mode.{Mode}
 use Rattle.graph_types.specs.declared.ids.Mode.TheVariants as mode
 use Rattle.conditions.specs.declared.condition.Cond.{Cond, fold-Cond}
-use Rattle.conditions.specs.declared.condition.Cond.TheOpen.{Cond-F, True, False, Compare, Not, And, Or}
+use Rattle.conditions.specs.declared.condition.Cond.TheOpen.{Cond-F, True, False, Compare, Not, And, Or, Shape}
 use Rattle.conditions.specs.declared.condition.Factor.{Factor}
 use Rattle.conditions.specs.declared.condition.Op.{Op}
 use Rattle.conditions.specs.declared.condition.Op.TheVariants.{AtMost, Below, AtLeast, Above}
@@ -48,6 +48,7 @@ polarity_of kind (Compare sum op bound) = record { falls = bounds_above op && is
 polarity_of kind (Not c) = record { falls = c.rises; rises = c.falls }
 polarity_of kind (And c d) = record { falls = c.falls && d.falls; rises = c.rises && d.rises }
 polarity_of kind (Or c d) = record { falls = c.falls && d.falls; rises = c.rises && d.rises }
+polarity_of kind (Shape s) = record { falls = false; rises = false }
 
 abbrev pub polarity : Mode → Cond → Polarity
 polarity kind c = fold-Cond Polarity (polarity_of kind) c

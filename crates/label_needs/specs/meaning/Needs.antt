@@ -4,7 +4,7 @@ use Rattle.std.specs.FinMap as map
 use Rattle.std.specs.List.{list_any}
 use Rattle.graph_types.specs.meaning.Graph.{Graph}
 use Rattle.conditions.specs.declared.condition.Cond.{Cond, fold-Cond}
-use Rattle.conditions.specs.declared.condition.Cond.TheOpen.{Cond-F, True, False, Compare, Not, And, Or}
+use Rattle.conditions.specs.declared.condition.Cond.TheOpen.{Cond-F, True, False, Compare, Not, And, Or, Shape}
 use Rattle.conditions.specs.declared.condition.Factor.{Factor}
 use Rattle.conditions.specs.declared.condition.Term.{Term}
 use Rattle.conditions.specs.declared.condition.Term.TheVariants.{Vertices, Joins, Kinds}
@@ -19,7 +19,7 @@ term_needs_labels _ = false
 abbrev pub sum_needs_labels : List Factor → Bool
 sum_needs_labels sum = list_any (λ f. term_needs_labels f.term) sum
 
--- one of its terms does
+-- one of its terms does, or it has a shape
 abbrev pub needs_by : Cond-F Bool → Bool
 needs_by True = false
 needs_by False = false
@@ -27,6 +27,7 @@ needs_by (Compare sum op bound) = sum_needs_labels sum
 needs_by (Not c) = c
 needs_by (And c d) = c || d
 needs_by (Or c d) = c || d
+needs_by (Shape s) = true
 
 abbrev pub needs_vertex_labels : Cond → Bool
 needs_vertex_labels c = fold-Cond Bool needs_by c

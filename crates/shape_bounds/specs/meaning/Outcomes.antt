@@ -1,8 +1,8 @@
 -- Whether a condition may hold of a simple graph of which only the numbers of vertices and edges are known, and
 -- whether it may fail.
-use Rattle.std.specs.Prelude.{ℕ, ◌≤◌, Bool, true, false, not, ◌&&◌, ◌||◌, IsTrue, eqb, nat_lt, nat_le, if◌then◌else◌}
+use Rattle.std.specs.Prelude.{ℕ, ◌≤◌, Bool, true, false, not, ◌&&◌, ◌||◌, IsTrue, eqb, nat_lt, nat_le, if◌then◌else◌, length}
 use Rattle.conditions.specs.declared.condition.Cond.{Cond, fold-Cond}
-use Rattle.conditions.specs.declared.condition.Cond.TheOpen.{Cond-F, True, False, Compare, Not, And, Or}
+use Rattle.conditions.specs.declared.condition.Cond.TheOpen.{Cond-F, True, False, Compare, Not, And, Or, Shape}
 use Rattle.conditions.specs.declared.condition.Op.{Op}
 use Rattle.conditions.specs.declared.condition.Op.TheVariants.{AtMost, Below, AtLeast, Above, Equal, Unequal}
 use Rattle.conditions.specs.meaning.Conditions.{comparison_holds}
@@ -41,7 +41,8 @@ pub record Outcomes : Type 0 where
   pub can_fail : Bool
 
 -- A comparison may fail where the opposite one may hold, and `not` turns both round. `and` may hold only where both
--- sides may, and may fail where one side may; `or` the other way round.
+-- sides may, and may fail where one side may; `or` the other way round. A graph can have a shape only where it has as
+-- many vertices and edges as the pattern.
 abbrev pub outcomes_by : ℕ → ℕ → Cond-F Outcomes → Outcomes
 outcomes_by vertices edges True = record { can_hold = true; can_fail = false }
 outcomes_by vertices edges False = record { can_hold = false; can_fail = true }
@@ -52,6 +53,7 @@ outcomes_by vertices edges (Compare sum op bound) = record {
 outcomes_by vertices edges (Not c) = record { can_hold = c.can_fail; can_fail = c.can_hold }
 outcomes_by vertices edges (And c d) = record { can_hold = c.can_hold && d.can_hold; can_fail = c.can_fail || d.can_fail }
 outcomes_by vertices edges (Or c d) = record { can_hold = c.can_hold || d.can_hold; can_fail = c.can_fail && d.can_fail }
+outcomes_by vertices edges (Shape s) = record { can_hold = eqb vertices (length s.labels) && eqb edges (length s.edges); can_fail = true }
 
 abbrev pub outcomes : Cond → ℕ → ℕ → Outcomes
 outcomes c vertices edges = fold-Cond Outcomes (outcomes_by vertices edges) c
