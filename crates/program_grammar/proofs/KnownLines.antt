@@ -1,5 +1,5 @@
 -- Each label of a program that was read has a name among the names then.
-use Rattle.std.proofs.Common.{◌≡◌, ℕ, ◌+◌, Bool, true, false, IsTrue, List, [], ◌∷◌, Result, Ok, Err, codes, refl, subst, if◌then◌else◌}
+use Rattle.std.proofs.Common.{◌≡◌, ℕ, ◌+◌, Bool, true, false, IsTrue, List, [], ◌∷◌, Result, Ok, Err, codes, refl, ap, subst, if◌then◌else◌}
 use Rattle.graph_types.specs.declared.ids.Mode.{Mode}
 use Rattle.line_fields.specs.meaning.Fields.{is_nothing_line, rest_of, words_of}
 use Rattle.line_fields.specs.meaning.Names.{Names}
@@ -12,12 +12,13 @@ use Rattle.program_grammar.specs.declared.header.HeaderReader.{HeaderReader}
 use Rattle.program_grammar.specs.declared.header.HeaderReader.TheVariants as header
 use Rattle.program_grammar.specs.declared.header.HeaderStep.{HeaderStep}
 use Rattle.program_grammar.specs.declared.header.HeaderStep.TheVariants.{More, Ready}
-use Rattle.program_grammar.specs.meaning.Grammar.{condition_of}
-use Rattle.program_grammar.specs.meaning.Header.{condition_after_word, filter_of, header_said, if_falling, is_first, is_word, mode_said, awaited_line_said, size_of}
+use Rattle.condition_grammar.specs.declared.fault.ConditionKind.{ConditionKind}
+use Rattle.condition_grammar.specs.meaning.Grammar.{condition_of}
+use Rattle.condition_grammar.specs.meaning.Text.{knows_labels}
+use Rattle.condition_grammar.proofs.Productions.{bind_ok, chosen_ok, ok_same}
+use Rattle.condition_grammar.proofs.Known.{KnownThen, condition_of-known, still_known}
+use Rattle.program_grammar.specs.meaning.Header.{condition_after_word, in_line, kind_of_condition, filter_of, header_said, if_falling, is_first, is_word, mode_said, awaited_line_said, size_of}
 use Rattle.program_grammar.specs.meaning.Programs.{ProgramOutcome, outcome_after_line, lines_said, program_said}
-use Rattle.program_grammar.specs.meaning.Text.{knows_labels}
-use Rattle.program_grammar.proofs.Productions.{bind_ok, chosen_ok, ok_same}
-use Rattle.program_grammar.proofs.Known.{KnownThen, condition_of-known, still_known}
 
 -- the labels of a program are known
 abbrev pub KnownProgram : Names → ProgramValue → Type 0
@@ -39,8 +40,12 @@ behind-known : (text line : List ℕ) (names : Names) (x : Cond × Names) → co
 unfolding condition_after_word
 behind-known text line names x h = by_test (is_first text (words_of line)) h
   where
-    by_test : (b : Bool) → (if b then condition_of (rest_of line 1) names else Err BadLine) ≡ Ok x → KnownThen names x
-    by_test true e = condition_of-known (rest_of line 1) names x e
+    read_ok : (r : Result (Cond × Names) ConditionKind) → in_line r ≡ Ok x → r ≡ Ok x
+    read_ok (Ok y) e = ap Ok (ok_same e)
+    read_ok (Err f) e = absurd (let no : Err (kind_of_condition f) ≡ Ok x = e in cc)
+
+    by_test : (b : Bool) → (if b then in_line (condition_of (rest_of line 1) names) else Err BadLine) ≡ Ok x → KnownThen names x
+    by_test true e = condition_of-known (rest_of line 1) names x (read_ok (condition_of (rest_of line 1) names) e)
     by_test false e = absurd (let no : Err BadLine ≡ Ok x = e in cc)
 
 filter-known : (m : Mode) (line : List ℕ) (names : Names) (x : FallingValue × Names) → filter_of m line names ≡ Ok x → IsTrue (knows_labels x.1 x.0.cond)
@@ -76,7 +81,7 @@ said-known (header.Match n f) line names x known h =
     subst KnownStep equal (still_known names c.1 it.leads f.cond known, it.known)
 said-known (header.Begin n f c) line names x known h =
     let p : ProgramValue = record { mode = f.mode; size = n; filter = f.cond; matching = c } in
-    let equal = chosen_ok (is_word (codes "begin") (words_of line)) (Ready p, names) x h in
+    let equal = chosen_ok (is_word (codes "begin") (words_of line)) BadLine (Ready p, names) x h in
     subst KnownStep equal known
 
 line-known : (h : HeaderReader) (line : List ℕ) (names : Names) (x : HeaderStep × Names) → KnownSoFar h names → header_said h line names ≡ Ok x → KnownStep x

@@ -1,16 +1,5 @@
-pub mod Splitting
-pub mod Places
-pub mod Chaining
-pub mod Whole
-pub mod Productions
 pub mod OfLines
-pub mod Limits
 pub mod Lines
 pub mod WholePrograms
-pub mod Round
-pub mod Digits
-pub mod WrittenTokens
-pub mod ReadBack
 pub mod RoundTrip
-pub mod Known
 pub mod KnownLines

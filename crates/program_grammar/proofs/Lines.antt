@@ -11,10 +11,10 @@ use Rattle.program_grammar.specs.declared.fault.ReadError.{ReadError}
 use Rattle.program_grammar.specs.declared.fault.ReadError.TheVariants as error
 use Rattle.program_grammar.specs.declared.fault.ProgramKind.{ProgramKind}
 use Rattle.program_grammar.specs.declared.fault.ProgramKind.TheVariants.{NotFalling}
-use Rattle.program_grammar.specs.meaning.Grammar.{◌>>=◌}
+use Rattle.condition_grammar.specs.calls.Reading.{Parses}
+use Rattle.condition_grammar.specs.meaning.Grammar.{◌>>=◌}
 use Rattle.program_grammar.specs.meaning.Header.{condition_after_word, filter_of, if_falling}
-use Rattle.program_grammar.specs.calls.Answers.{AnswersReading, FewNames, HasRoom, RunsOut}
-use Rattle.program_grammar.specs.calls.Reading.{AddsFirst, RefusesAs, AddsNames, Parses}
+use Rattle.program_grammar.specs.calls.Answers.{AddsFirst, AddsNames, AnswersReading, FewNames, HasRoom, RefusesAs, RunsOut}
 
 -- names that are as they were
 pub Starves-unchanged : {A : Type 0} (names : Names) (said : Result (A × Names) ProgramKind) → RunsOut names said names

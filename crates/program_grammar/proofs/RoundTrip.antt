@@ -17,17 +17,18 @@ use Rattle.program_grammar.specs.declared.header.HeaderReader.{HeaderReader}
 use Rattle.program_grammar.specs.declared.header.HeaderReader.TheVariants as header
 use Rattle.program_grammar.specs.declared.header.HeaderStep.{HeaderStep}
 use Rattle.program_grammar.specs.declared.header.HeaderStep.TheVariants.{More, Ready}
-use Rattle.program_grammar.specs.meaning.Token.{Token}
-use Rattle.program_grammar.specs.meaning.Lexing.{tokens_of}
-use Rattle.program_grammar.specs.meaning.Grammar.{◌>>=◌, condition_of}
-use Rattle.program_grammar.specs.meaning.Header.{condition_after_word, filter_of, header_said, if_falling, in_range, mode_said, awaited_line_said, size_in_range, size_of, size_said, value_of}
+use Rattle.condition_grammar.specs.meaning.Token.{Token}
+use Rattle.condition_grammar.specs.meaning.Lexing.{tokens_of}
+use Rattle.condition_grammar.specs.meaning.Grammar.{◌>>=◌, condition_of}
+use Rattle.condition_grammar.specs.meaning.Text.{cond_text, knows_labels}
+use Rattle.condition_grammar.proofs.Splitting.{tokens_of-blanks}
+use Rattle.condition_grammar.proofs.Productions.{some_same}
+use Rattle.condition_grammar.proofs.Digits.{ten_digits-decimal}
+use Rattle.condition_grammar.proofs.ReadBack.{condition_of-written, some_tokens}
+use Rattle.program_grammar.specs.meaning.Header.{condition_after_word, filter_of, header_said, if_falling, in_line, in_range, mode_said, awaited_line_said, size_in_range, size_of, size_said, value_of}
 use Rattle.program_grammar.specs.meaning.Programs.{LinesFit, fits_next, outcome_after_line, lines_said, program_said}
 use Rattle.program_grammar.specs.calls.Answers.{HasRoom}
-use Rattle.program_grammar.specs.meaning.Text.{cond_text, knows_labels, mode_text, program_text}
-use Rattle.program_grammar.proofs.Splitting.{tokens_of-blanks}
-use Rattle.program_grammar.proofs.Productions.{some_same}
-use Rattle.program_grammar.proofs.Digits.{ten_digits-decimal}
-use Rattle.program_grammar.proofs.ReadBack.{condition_of-written, some_tokens}
+use Rattle.program_grammar.specs.meaning.Text.{mode_text, program_text}
 
 -- ---- words
 
@@ -46,13 +47,13 @@ module _ (text : List ℕ) (names : Names) (some : 1 ≤ length (words_of text))
   two_words : nat_lt 1 (suc (length (words_of text))) ≡ true
   two_words = lt-ltb 1 (suc (length (words_of text))) (omega (arith, some))
 
-  behind-filter : condition_after_word (codes "filter") (codes "filter " ++ text) names ≡ condition_of text names
+  behind-filter : condition_after_word (codes "filter") (codes "filter " ++ text) names ≡ in_line (condition_of text names)
   unfolding condition_after_word condition_of tokens_of
-  behind-filter = ap (λ b. condition_of (cond b (codes " " ++ text) []) names) two_words
+  behind-filter = ap (λ b. in_line (condition_of (cond b (codes " " ++ text) []) names)) two_words
 
-  behind-match : condition_after_word (codes "match") (codes "match " ++ text) names ≡ condition_of text names
+  behind-match : condition_after_word (codes "match") (codes "match " ++ text) names ≡ in_line (condition_of text names)
   unfolding condition_after_word condition_of tokens_of
-  behind-match = ap (λ b. condition_of (cond b (codes " " ++ text) []) names) two_words
+  behind-match = ap (λ b. in_line (condition_of (cond b (codes " " ++ text) []) names)) two_words
 
 -- ---- lines
 
@@ -100,7 +101,7 @@ module _ (names : Names) where
         let tokens = some_tokens names are p.filter program.filter_within filter_known in
         let some = some_words (cond_text names p.filter) tokens.0 tokens.1 tokens.2 in
         let read : FallingValue × Names = (of_filter, names) in
-        ap (λ r. r >>= if_falling p.mode >>= λ f. Ok (More (header.Match p.size f.0), f.1)) (behind-filter (cond_text names p.filter) names some ∙ condition_of-written names are p.filter program.filter_within filter_known)
+        ap (λ r. r >>= if_falling p.mode >>= λ f. Ok (More (header.Match p.size f.0), f.1)) (behind-filter (cond_text names p.filter) names some ∙ ap in_line (condition_of-written names are p.filter program.filter_within filter_known))
         ∙ ap (λ b. (if b then Ok read else Err NotFalling) >>= λ f. Ok (More (header.Match p.size f.0), f.1)) program.falls
 
     match_line : header_said (header.Match p.size of_filter) (codes "match " ++ cond_text names p.matching) names ≡ Ok (More (header.Begin p.size of_filter p.matching), names)
@@ -108,7 +109,7 @@ module _ (names : Names) where
     match_line =
         let tokens = some_tokens names are p.matching program.matching_within matching_known in
         let some = some_words (cond_text names p.matching) tokens.0 tokens.1 tokens.2 in
-        ap (λ r. r >>= λ c. Ok (More (header.Begin p.size of_filter c.0), c.1)) (behind-match (cond_text names p.matching) names some ∙ condition_of-written names are p.matching program.matching_within matching_known)
+        ap (λ r. r >>= λ c. Ok (More (header.Begin p.size of_filter c.0), c.1)) (behind-match (cond_text names p.matching) names some ∙ ap in_line (condition_of-written names are p.matching program.matching_within matching_known))
 
     abbrev lines_from_match : List (List ℕ)
     lines_from_match = (codes "match " ++ cond_text names p.matching) ∷ codes "begin" ∷ []

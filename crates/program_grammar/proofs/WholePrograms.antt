@@ -13,11 +13,10 @@ use Rattle.program_grammar.specs.declared.header.HeaderReader.{HeaderReader}
 use Rattle.program_grammar.specs.declared.header.HeaderReader.TheVariants as header
 use Rattle.program_grammar.specs.declared.header.HeaderStep.{HeaderStep}
 use Rattle.program_grammar.specs.declared.header.HeaderStep.TheVariants.{More, Ready}
-use Rattle.program_grammar.specs.calls.Answers.{AnswersLine, FewNames, HasRoom, RunsOut}
+use Rattle.program_grammar.specs.calls.Answers.{AddsNames, AnswersLine, FewNames, HasRoom, RunsOut}
 use Rattle.program_grammar.specs.meaning.Header.{mode_said, size_of, filter_of, condition_after_word, is_word, header_said, awaited_line_said}
 use Rattle.program_grammar.specs.meaning.Programs.{LinesFit, LinesRunOut, ReadsProgram, RoomFor, fits_next, outcome_after_line, lines_said, program_said, runs_out_next}
-use Rattle.program_grammar.specs.calls.Reading.{AddsNames}
-use Rattle.program_grammar.proofs.Productions.{bind_ok, ok_same}
+use Rattle.condition_grammar.proofs.Productions.{bind_ok, ok_same}
 
 pub at_line : (lines seen : List (List ℕ)) (i : ℕ) (line text : List ℕ) → seen ≡ lines → line ≡ get_or seen i line → i < length seen → text ≡ line → drop i lines ≡ text ∷ drop (i + 1) lines
 at_line lines seen i line text seen_is at within text_is =

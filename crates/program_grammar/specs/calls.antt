@@ -1,4 +1,2 @@
 -- What the calls do, by their results.
-pub mod Reading
 pub mod Answers
-pub mod Cursor

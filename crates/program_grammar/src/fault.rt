@@ -1,6 +1,6 @@
 use crate::header::Word;
+use condition_grammar::{ConditionFault, ConditionKind};
 use graph_types::NoMemory;
-use std::alloc::{AllocError, AllocFailed};
 use thiserror::Error;
 
 /// Why a program was not read.
@@ -66,24 +66,24 @@ impl From<NoMemory> for ReadError {
     }
 }
 
-impl From<AllocError> for ReadError {
+impl From<ConditionFault> for ReadError {
     ghost use Rattle.std.specs.Prelude.{◌≡◌};
-    ghost use Rattle.program_grammar.specs.declared.fault.ReadError.TheVariants.{NoMemory as want};
+    ghost use Rattle.program_grammar.specs.calls.Answers.{error_of_condition};
 
-    ghost from_gives = { λ _ e. e ≡ want };
+    ghost from_gives = { λ fault e. e ≡ error_of_condition fault };
 
-    fn from(_error: AllocError) -> ReadError {
-        ReadError::NoMemory
-    }
-}
-
-impl<T: Drop> From<AllocFailed<T>> for ReadError {
-    ghost use Rattle.std.specs.Prelude.{◌≡◌};
-    ghost use Rattle.program_grammar.specs.declared.fault.ReadError.TheVariants.{NoMemory as want};
-
-    ghost from_gives = { λ _ e. e ≡ want };
-
-    fn from(_error: AllocFailed<T>) -> ReadError {
-        ReadError::NoMemory
+    fn from(fault: ConditionFault) -> ReadError {
+        match fault {
+            ConditionFault::NoMemory => ReadError::NoMemory,
+            ConditionFault::Refused(ConditionKind::BadForm) => {
+                ReadError::Refused(ProgramKind::BadLine)
+            }
+            ConditionFault::Refused(ConditionKind::TooDeep) => {
+                ReadError::Refused(ProgramKind::TooDeep)
+            }
+            ConditionFault::Refused(ConditionKind::TooLong) => {
+                ReadError::Refused(ProgramKind::TooLong)
+            }
+        }
     }
 }

@@ -3,13 +3,13 @@ ghost use Rattle.std.specs.Option.{option_copied};
 ghost use Rattle.conditions.specs.meaning.Written.{IsWithinLimits};
 ghost use Rattle.line_fields.specs.meaning.Fields.{words_of};
 ghost use Rattle.program_grammar.specs.meaning.Header.{awaited_word, condition_after_word, filter_of, header_said, is_first as is_first_of, is_pair as is_pair_of, is_word as is_word_of, mode_said, size_of, value_of};
-ghost use Rattle.program_grammar.specs.calls.Reading.{RefusesAs, Parses};
-ghost use Rattle.program_grammar.specs.calls.Answers.{AnswersReading, AnswersLine, HasRoom};
+ghost use Rattle.condition_grammar.specs.calls.Reading.{Parses};
+ghost use Rattle.program_grammar.specs.calls.Answers.{AnswersReading, AnswersLine, HasRoom, RefusesAs};
 
-use crate::condition::parse;
 use crate::fault::{ProgramFault, ProgramKind, ReadError};
 use crate::labels::intern_all;
 use crate::limited::{Filter, Matching, Size};
+use condition_grammar::read_condition;
 use conditions::Cond;
 use filter_polarity::{Program, falling};
 use graph_types::Mode;
@@ -266,7 +266,8 @@ fn parse_behind<'t>(
     if !is_first(line, first) {
         return Err(ReadError::Refused(ProgramKind::BadLine));
     }
-    parse(alloc, rest(line, 1), names)
+    let read = read_condition(alloc, rest(line, 1), names)?;
+    Ok(read)
 }
 
 fn is_first(line: &[u8], text: &[u8]) -> bool

@@ -1,17 +1,11 @@
-//! Programs as text: conditions and headers, read and written.
+//! Programs as text: headers, read and written.
 #![tactic(auto)]
 
-mod condition;
 mod fault;
 mod header;
 mod labels;
 mod limited;
 mod program;
-mod reader;
-mod term_name;
-mod terms;
-mod token;
-mod tokens;
 mod writing;
 
 pub use fault::{ProgramFault, ProgramKind};

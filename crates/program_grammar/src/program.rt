@@ -1,6 +1,6 @@
 ghost use Rattle.std.specs.Prelude.{◌⊎◌, map, IfOk, IsTrue};
 ghost use Rattle.program_grammar.specs.meaning.Programs.{LinesFit, ReadsProgram, RoomFor};
-ghost use Rattle.program_grammar.specs.meaning.Text.{knows_labels};
+ghost use Rattle.condition_grammar.specs.meaning.Text.{knows_labels};
 
 use crate::fault::{ProgramFault, ProgramKind};
 use crate::header::{HeaderReader, HeaderStep};

@@ -1,14 +1,26 @@
 -- What reading a line of a header answers.
-use Rattle.std.specs.Prelude.{◌≡◌, ◌+◌, ◌≤◌, ◌⊎◌, ℕ, List, ◌++◌, length, Result, Ok, Err}
+use Rattle.std.specs.Prelude.{◌≡◌, ◌+◌, ◌≤◌, ◌⊎◌, ℕ, List, ◌++◌, length, take, Result, Ok, Err}
 use Rattle.conditions.specs.meaning.Written.{most_tokens}
 use Rattle.line_fields.specs.meaning.Names.{Names, most_names}
+use Rattle.condition_grammar.specs.declared.fault.ConditionFault.{ConditionFault}
+use Rattle.condition_grammar.specs.declared.fault.ConditionFault.TheVariants as condition
 use Rattle.program_grammar.specs.declared.fault.ProgramFault.{ProgramFault}
 use Rattle.program_grammar.specs.declared.fault.ProgramFault.TheVariants as fault
 use Rattle.program_grammar.specs.declared.fault.ReadError.{ReadError}
 use Rattle.program_grammar.specs.declared.fault.ReadError.TheVariants as error
 use Rattle.program_grammar.specs.declared.fault.ProgramKind.{ProgramKind}
 use Rattle.program_grammar.specs.declared.fault.ProgramKind.TheVariants.{Missing}
-use Rattle.program_grammar.specs.calls.Reading.{AddsFirst, AddsNames}
+use Rattle.program_grammar.specs.meaning.Header.{kind_of_condition}
+
+-- some names more, at most so many, stand after the old ones
+pub record AddsNames (most : ℕ) (old new : Names) : Type 0 where
+  pub more : Names
+  pub behind : new ≡ old ++ more
+  pub few : length more ≤ most
+
+-- the first of these labels, and no others, were put after the names
+abbrev pub AddsFirst : List (List ℕ) → Names → Names → Type 0
+AddsFirst labels old new = (n : ℕ) × (new ≡ old ++ take n labels)
 
 -- There is room for the labels of a condition, whatever they are; or there is for those that it brings.
 abbrev pub FewNames : {A : Type 0} → Result (A × Names) ProgramKind → Type 0
@@ -34,6 +46,16 @@ abbrev pub AnswersReading : {A : Type 0} → Names → Result (A × Names) Progr
 AnswersReading old said (Ok x) new = (said ≡ Ok (x, new)) × AddsNames most_tokens old new
 AnswersReading old said (Err error.NoMemory) new = RunsOut old said new
 AnswersReading old said (Err (error.Refused f)) new = (said ≡ Err f) × (new ≡ old)
+
+-- a refusal is that of the definition, unless memory ran out
+abbrev pub RefusesAs : {A : Type 0} → ReadError → Result A ProgramKind → Type 0
+RefusesAs error.NoMemory said = Unit {0}
+RefusesAs (error.Refused f) said = said ≡ Err f
+
+-- why a line is not read whose condition is not
+abbrev pub error_of_condition : ConditionFault → ReadError
+error_of_condition condition.NoMemory = error.NoMemory
+error_of_condition (condition.Refused f) = error.Refused (kind_of_condition f)
 
 -- it can be told of a line: that one is missing is told of none
 abbrev pub IsOfLine : ProgramKind → Type 0

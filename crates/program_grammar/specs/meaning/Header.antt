@@ -9,14 +9,16 @@ use Rattle.conditions.specs.declared.condition.Cond.{Cond}
 use Rattle.filter_polarity.specs.meaning.Polarity.{is_falling}
 use Rattle.filter_polarity.specs.meaning.Program.{FallingValue}
 use Rattle.program_grammar.specs.declared.fault.ProgramKind.{ProgramKind}
-use Rattle.program_grammar.specs.declared.fault.ProgramKind.TheVariants.{BadLine, SizeRange, NotFalling}
+use Rattle.program_grammar.specs.declared.fault.ProgramKind.TheVariants.{BadLine, SizeRange, TooDeep, TooLong, NotFalling}
 use Rattle.program_grammar.specs.declared.header.HeaderReader.{HeaderReader}
 use Rattle.program_grammar.specs.declared.header.HeaderReader.TheVariants as header
 use Rattle.program_grammar.specs.declared.header.HeaderStep.{HeaderStep}
 use Rattle.program_grammar.specs.declared.header.HeaderStep.TheVariants.{More, Ready}
 use Rattle.program_grammar.specs.declared.header.Word.{Word}
 use Rattle.program_grammar.specs.declared.header.Word.TheVariants as word
-use Rattle.program_grammar.specs.meaning.Grammar.{◌>>=◌, condition_of}
+use Rattle.condition_grammar.specs.declared.fault.ConditionKind.{ConditionKind}
+use Rattle.condition_grammar.specs.declared.fault.ConditionKind.TheVariants as condition
+use Rattle.condition_grammar.specs.meaning.Grammar.{◌>>=◌, condition_of}
 use Rattle.program_grammar.specs.meaning.Sizes.{size_in}
 
 -- the word with which the awaited line begins
@@ -69,9 +71,19 @@ size_said (Some digits) = size_in_range (number_of 10 digits)
 unfoldable pub size_of : List (List ℕ) → Result ℕ ProgramKind
 size_of words = size_said (value_of (codes "size") words)
 
+-- why a line is refused whose condition is
+abbrev pub kind_of_condition : ConditionKind → ProgramKind
+kind_of_condition condition.BadForm = BadLine
+kind_of_condition condition.TooDeep = TooDeep
+kind_of_condition condition.TooLong = TooLong
+
+abbrev pub in_line : {A : Type 0} → Result A ConditionKind → Result A ProgramKind
+in_line (Ok x) = Ok x
+in_line (Err f) = Err (kind_of_condition f)
+
 -- a condition after the first word, which has to be this one
 unfoldable pub condition_after_word : List ℕ → List ℕ → Names → Result (Cond × Names) ProgramKind
-condition_after_word text line names = if is_first text (words_of line) then condition_of (rest_of line 1) names else Err BadLine
+condition_after_word text line names = if is_first text (words_of line) then in_line (condition_of (rest_of line 1) names) else Err BadLine
 
 -- the filter has to be falling in the job's mode
 abbrev pub if_falling : Mode → Cond × Names → Result (FallingValue × Names) ProgramKind

@@ -2,7 +2,7 @@ use Rattle.std.proofs.Common.{ℕ, List, ◌++◌, map, Bor, Ok, Err, refl, sym,
 use Rattle.std.proofs.lemmas.Result.{err_from_is_err_and}
 use Rattle.std.proofs.lemmas.Bool.{false_from_ne_true}
 use Rattle.program_grammar.specs.meaning.Header.{filter_of}
-use Rattle.program_grammar.specs.calls.Reading.{AddsFirst}
+use Rattle.program_grammar.specs.calls.Answers.{AddsFirst}
 use Rattle.program_grammar.proofs.Lines.{filter-fails, filter-not, filter-read, room-read, Answers-starves, Grows-labels, Starves-labels, length-seen}
 use Rattle.program_grammar.proofs.header.read_filter.Goals as goal
 

@@ -1,5 +1,5 @@
 use Rattle.std.proofs.Common.{◌≡◌, ◌++◌, ℕ, List, map, take, drop, Bor}
-use Rattle.program_grammar.specs.calls.Reading.{AreNew}
+use Rattle.condition_grammar.specs.calls.Reading.{AreNew}
 use Rattle.program_grammar.proofs.labels.intern_all.Given as goal
 
 -- the labels so far stand after the names, and those to come are new

@@ -1,0 +1,16 @@
+pub mod Splitting
+pub mod Places
+pub mod Chaining
+pub mod Whole
+pub mod Productions
+pub mod Deriving
+pub mod Completing
+pub mod Edges
+pub mod Shapes
+pub mod Limits
+pub mod Round
+pub mod Digits
+pub mod WrittenTokens
+pub mod WrittenShapes
+pub mod ReadBack
+pub mod Known

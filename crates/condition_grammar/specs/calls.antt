@@ -1,0 +1,3 @@
+-- What the calls do, by their results.
+pub mod Reading
+pub mod Cursor
