@@ -37,7 +37,7 @@ pub fn compare(alloc: Global, line: &str) -> Result<String, NoMemory> {
 }
 
 /// The numbers of a case, in the order of its fields.
-fn read_case(words: &[&str]) -> Option<Case> {
+pub fn read_case(words: &[&str]) -> Option<Case> {
     let [first, graphs, vertices, edges, labels, updates, most] = words else {
         return None;
     };

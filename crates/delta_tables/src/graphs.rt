@@ -72,6 +72,23 @@ pub fn change(
     Ok(window)
 }
 
+/// Changes the graph by a group of these updates, without those that it refuses. The window has this group alone.
+pub fn change_by(
+    alloc: Global,
+    graph: &mut Snapshot,
+    updates: &[Update],
+) -> Result<Window, NoMemory>
+    ensures { IfOk result (λ window. HasOneGroup window graph.old graph.new) }
+{
+    let mut window = Window::new(alloc, Stamp(0), 1);
+    window.begin_group();
+    for update in updates {
+        push(&mut window, graph, update)?;
+    }
+    window.end_group(graph)?;
+    Ok(window)
+}
+
 /// Adds an update to the open group, where the graph accepts it and the group has room.
 fn push(window: &mut Window, graph: &mut Snapshot, update: &Update) -> Result<(), NoMemory>
     requires { StandsOn window.old graph.old }
@@ -87,7 +104,7 @@ fn push(window: &mut Window, graph: &mut Snapshot, update: &Update) -> Result<()
     }
 }
 
-fn has_room(window: &Window) -> bool
+pub fn has_room(window: &Window) -> bool
     ensures { IsTrue result → HasRoom window.now window.now.current }
 {
     match window.open_len() {
@@ -98,7 +115,7 @@ fn has_room(window: &Window) -> bool
 
 /// An update that the graph accepts for the most part: of a vertex one time in five, or where one is absent, and else
 /// of an edge.
-fn draw_update(draws: &mut Draws, graph: &Snapshot, case: Case) -> Update {
+pub fn draw_update(draws: &mut Draws, graph: &Snapshot, case: Case) -> Update {
     let from = VertexId(draws.below(case.vertices));
     let to = VertexId(draws.below(case.vertices));
     let label = LabelId(draws.below(case.labels));

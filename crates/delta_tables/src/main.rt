@@ -3,7 +3,7 @@
 //! colon a program, in which `;` parts lines: it is written with what these changes come to in all, or with the first
 //! graph where the two differ. One that begins with `update` has a program and updates, and is written with what each
 //! search tells of the last of them; one that begins with `catch` has finds, and is written with what a catch does with
-//! each. Blank lines, and those that begin with `#`, are written alone.
+//! each; one that begins with `windows` says besides how the changes are mined over shards. Blank lines, and those that begin with `#`, are written alone.
 #![tactic(auto)]
 
 mod case;
@@ -12,6 +12,7 @@ mod comparing;
 mod deltas;
 mod draws;
 mod exploring;
+mod filling;
 mod finds;
 mod graphs;
 mod one_update;
@@ -19,6 +20,7 @@ mod outcome;
 mod programs;
 mod report;
 mod rows;
+mod windows;
 
 use rows::answer;
 use std::io;
@@ -30,7 +32,7 @@ fn main(rt: HostRuntime) -> io::Result<()> {
         if line.is_empty() || line.starts_with('#') {
             println!(rt; "{line}")?;
         } else {
-            let answer = answer(rt.alloc(), line)?;
+            let answer = answer(&rt, rt.alloc(), line)?;
             println!(rt; "{line} -> {answer}")?;
         }
     }

@@ -1,0 +1,7 @@
+//! Mines a window of groups: shards take in what each group changed, and what it takes away and brings is searched for
+//! in the graphs that they hold before and after it.
+#![tactic(auto)]
+
+mod mining;
+
+pub use mining::{Mined, mine_window};
