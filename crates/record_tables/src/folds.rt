@@ -1,10 +1,13 @@
-//! Texts of records that are folded, whole or record by record.
+//! Texts of records that are folded, whole or record by record, and migrated.
+
+ghost use Rattle.std.specs.Prelude.{◌≤◌};
 
 use crate::case::Case;
 use crate::records::listed;
-use crate::text::bytes;
+use crate::text::{bytes, shown, sink};
 use graph_types::{NoMemory, PieceList, Stamp};
 use job_io::{ByteList, CallList, MemorySource};
+use record_migration::{MigrationStop, migrate_records};
 use record_text::read_record;
 use snapshot_fold::{Fold, FoldFault, FoldRefusal, FoldStop, fold_records};
 use std::alloc::Global;
@@ -51,10 +54,32 @@ pub fn take(alloc: Global, case: &Case, fold: &mut Fold) -> Result<String, NoMem
     let pieces = listed(alloc, &fold.listing(alloc)?, 1000)?;
     let done = fold.done().0;
     let told = match result {
-        Ok(()) => "",
-        Err(fault) => fault_text(fault),
+        Ok(()) => String::new(alloc),
+        Err(fault) => fault_text(alloc, fault)?,
     };
     Ok(format!(in alloc; "{told}done {done} {pieces}")?)
+}
+
+/// Migrates a text, and so many `#` after it (`filled`), of at most `most` lines, to a sink that has room for
+/// `room` bytes. The source fails at the call `fails`.
+pub fn migrate(alloc: Global, case: &Case) -> Result<String, NoMemory> {
+    let mut bytes = bytes(alloc, case.text)?;
+    for _ in 0..case.size("filled", 0) {
+        bytes.push(b'#')?;
+    }
+    let mut source = source(alloc, case, bytes)?;
+    let mut sink = sink(alloc, case.size("room", 1000))?;
+    let result = migrate_records(alloc, most_lines(case), &mut source, &mut sink);
+    let mut answer = shown(alloc, sink.bytes())?;
+    match result {
+        Ok(()) => {}
+        Err(MigrationStop::WriteFault) => answer.push_str(" write fault")?,
+        Err(MigrationStop::Stopped(stop)) => {
+            answer.push_str(" ")?;
+            answer.push_str(stop_text(alloc, stop)?.as_str())?;
+        }
+    }
+    Ok(answer)
 }
 
 fn prefix(alloc: Global, bytes: &[u8], len: usize) -> Result<ByteList, NoMemory> {
@@ -66,35 +91,62 @@ fn prefix(alloc: Global, bytes: &[u8], len: usize) -> Result<ByteList, NoMemory>
 }
 
 fn folded(alloc: Global, case: &Case, bytes: ByteList) -> Result<String, NoMemory> {
-    let mut failing = CallList::new(alloc);
-    if let Some(call) = case.number("fails") {
-        failing.push(call)?;
-    }
-    let mut source = MemorySource::new(bytes, 8, failing);
-    let most = case.number("most").unwrap_or(100).min(100_000);
+    let mut source = source(alloc, case, bytes)?;
     let at = case.number("at").map(|t| Stamp(t));
-    match fold_records(alloc, most, at, &mut source) {
+    match fold_records(alloc, most_lines(case), at, &mut source) {
         Ok(pieces) => listed(alloc, &pieces, 1000),
         Err(stop) => stop_text(alloc, stop),
     }
 }
 
-fn fault_text(fault: FoldFault) -> &'static str {
+/// A source that gives eight bytes a call, and fails at the call `fails`.
+fn source(alloc: Global, case: &Case, bytes: ByteList) -> Result<MemorySource, NoMemory> {
+    let mut failing = CallList::new(alloc);
+    if let Some(call) = case.number("fails") {
+        failing.push(call)?;
+    }
+    Ok(MemorySource::new(bytes, 8, failing))
+}
+
+fn most_lines(case: &Case) -> u64
+    ensures { result ≤ 100000 }
+{
+    case.number("most").unwrap_or(100).min(100_000)
+}
+
+fn fault_text(alloc: Global, fault: FoldFault) -> Result<String, NoMemory> {
     match fault {
-        FoldFault::Refused(FoldRefusal::MixedModes) => "mixed modes, ",
-        FoldFault::Refused(FoldRefusal::OutOfOrder) => "out of order, ",
-        FoldFault::Refused(FoldRefusal::AddsPresent) => "adds present, ",
-        FoldFault::Refused(FoldRefusal::RemovesAbsent) => "removes absent, ",
-        FoldFault::NoMemory => "out of memory, ",
+        FoldFault::Refused(FoldRefusal::WrongForm) => Ok(String::from_str(alloc, "wrong form, ")?),
+        FoldFault::Refused(FoldRefusal::MixedModes) => Ok(String::from_str(
+            alloc,
+            "mixed modes, ",
+        )?),
+        FoldFault::Refused(FoldRefusal::OutOfOrder) => {
+            Ok(String::from_str(alloc, "out of order, ")?)
+        }
+        FoldFault::Refused(FoldRefusal::AddsPresent) => {
+            Ok(String::from_str(alloc, "adds present, ")?)
+        }
+        FoldFault::Refused(FoldRefusal::RemovesAbsent) => {
+            Ok(String::from_str(alloc, "removes absent, ")?)
+        }
+        FoldFault::Refused(FoldRefusal::WrongCount { said, held }) => {
+            Ok(format!(in alloc; "{said} said and {held} held, ")?)
+        }
+        FoldFault::NoMemory => Err(NoMemory),
     }
 }
 
-fn refusal_text(why: FoldRefusal) -> &'static str {
+fn refusal_text(alloc: Global, line: u64, why: FoldRefusal) -> Result<String, NoMemory> {
     match why {
-        FoldRefusal::MixedModes => "mixes modes",
-        FoldRefusal::OutOfOrder => "out of order",
-        FoldRefusal::AddsPresent => "adds present",
-        FoldRefusal::RemovesAbsent => "removes absent",
+        FoldRefusal::WrongForm => Ok(format!(in alloc; "line {line} wrong form")?),
+        FoldRefusal::MixedModes => Ok(format!(in alloc; "line {line} mixes modes")?),
+        FoldRefusal::OutOfOrder => Ok(format!(in alloc; "line {line} out of order")?),
+        FoldRefusal::AddsPresent => Ok(format!(in alloc; "line {line} adds present")?),
+        FoldRefusal::RemovesAbsent => Ok(format!(in alloc; "line {line} removes absent")?),
+        FoldRefusal::WrongCount { said, held } => {
+            Ok(format!(in alloc; "line {line} {said} said and {held} held")?)
+        }
     }
 }
 
@@ -103,9 +155,7 @@ fn stop_text(alloc: Global, stop: FoldStop) -> Result<String, NoMemory> {
         FoldStop::NoMemory => return Err(NoMemory),
         FoldStop::ReadFault => String::from_str(alloc, "read fault")?,
         FoldStop::BadLine(line) => format!(in alloc; "line {line} in no form")?,
-        FoldStop::Refused { line, why } => {
-            format!(in alloc; "line {line} {}", refusal_text(why))?
-        }
+        FoldStop::Refused { line, why } => { refusal_text(alloc, line, why)? }
         FoldStop::NotDone(lines) => format!(in alloc; "not done after {lines} lines")?,
         FoldStop::TooLong(line) => format!(in alloc; "line {line} too long")?,
         FoldStop::TooMany(line) => format!(in alloc; "line {line} too many")?,

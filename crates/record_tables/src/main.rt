@@ -1,5 +1,5 @@
 //! Tables of records: each line of standard input is a case, and is printed with what the calls of
-//! `record_text` and `snapshot_fold` answer. Other lines are printed as they are.
+//! `record_text`, `snapshot_fold` and `record_migration` answer. Other lines are printed as they are.
 //!
 //! A case is a word, options as `name=number`, a colon and a text, in which `;` stands for an LF.
 #![tactic(auto)]
@@ -43,6 +43,7 @@ fn answer(alloc: Global, case: &Case, fold: &mut Fold) -> Result<String, NoMemor
         "list" => records::list(alloc, case),
         "fold" => folds::fold(alloc, case),
         "cuts" => folds::cuts(alloc, case),
+        "migrate" => folds::migrate(alloc, case),
         "start" => folds::start(alloc, fold),
         "take" => folds::take(alloc, case, fold),
         _ => Ok(String::from_str(alloc, "no such table")?),

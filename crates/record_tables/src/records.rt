@@ -4,23 +4,26 @@ use crate::case::Case;
 use crate::text::{shown, sink};
 use graph_types::{NoMemory, PieceList, Stamp};
 use job_io::{MemorySink, Page, WriteFault};
-use record_text::{RecordLine, read_record, write_delta, write_done, write_listing};
+use record_text::{RecordLine, read_record, write_delta, write_done, write_head, write_listing};
 use std::alloc::Global;
 
-/// What lines say: the pieces that go, those that come, and the timestamp of the last of them; and which
-/// timestamp is done, if one is.
+/// What lines say: whether one is the first line of format 2; the pieces that go, those that come, and the
+/// timestamp of the last of them; and which timestamp is done, if one is, with its count if it has one.
 #[derive(Drop)]
 struct Changes {
+    head: bool,
     rem: PieceList,
     add: PieceList,
     stamp: Stamp,
     done: Option<Stamp>,
+    count: Option<u64>,
 }
 
 impl Changes {
     fn take(&mut self, said: &RecordLine) -> Result<(), NoMemory> {
         match said {
             RecordLine::Nothing => {}
+            RecordLine::Head => self.head = true,
             RecordLine::Rem { stamp, piece } => {
                 self.stamp = *stamp;
                 self.rem.push(*piece)?;
@@ -29,7 +32,10 @@ impl Changes {
                 self.stamp = *stamp;
                 self.add.push(*piece)?;
             }
-            RecordLine::Done { stamp } => self.done = Some(*stamp),
+            RecordLine::Done { stamp, count } => {
+                self.done = Some(*stamp);
+                self.count = *count;
+            }
         }
         Ok(())
     }
@@ -77,10 +83,12 @@ pub fn listed(alloc: Global, pieces: &PieceList, room: usize) -> Result<String, 
 
 fn changes_of(alloc: Global, text: &str) -> Result<Changes, NoMemory> {
     let mut changes = Changes {
+        head: false,
         rem: PieceList::new(alloc),
         add: PieceList::new(alloc),
         stamp: Stamp(0),
         done: None,
+        count: None,
     };
     for line in text.split(';') {
         if let Ok(said) = read_record(line.as_bytes()) {
@@ -102,9 +110,12 @@ fn write_changes(
     page: &mut Page,
     changes: &Changes,
 ) -> Result<(), WriteFault> {
+    if changes.head {
+        write_head(sink, page)?;
+    }
     write_delta(sink, page, changes.stamp, &changes.rem, &changes.add)?;
     if let Some(stamp) = changes.done {
-        write_done(sink, page, stamp)?;
+        write_done(sink, page, stamp, changes.count)?;
     }
     page.send(sink)
 }

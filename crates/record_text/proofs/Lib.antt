@@ -1,5 +1,4 @@
 pub mod BegunLine
-pub mod Lines
 pub mod ListedLine
 pub mod PieceLines
 pub mod Pieces

@@ -1,5 +1,5 @@
 -- The words of a line that was written, and what they say.
-use Rattle.std.proofs.Common.{◌≡◌, ◌≢◌, ℕ, ◌^◌, ◌<◌, ◌≤◌, Bool, true, false, ◌||◌, leb, lit<, List, [], ◌∷◌, ◌++◌, length, map, All, None, Some, refl, sym, ap, subst, ◌∙◌, arith, append_assoc, append-nil, if◌then◌else◌}
+use Rattle.std.proofs.Common.{◌≡◌, ◌≢◌, ℕ, ◌^◌, ◌<◌, ◌≤◌, Bool, true, false, ◌||◌, leb, lit<, List, [], ◌∷◌, ◌++◌, length, map, All, Option, None, Some, refl, sym, ap, subst, ◌∙◌, arith, append_assoc, append-nil, if◌then◌else◌}
 use Rattle.std.specs.Prelude.{codes, decimal}
 use Rattle.std.specs.List.{AllByRecursion, slice_split, list_all, filter, flat_map}
 use Rattle.std.specs.List.Sorted.{IsStrictlySortedBy}
@@ -18,11 +18,11 @@ use Rattle.graph_types.specs.meaning.Piece.{PieceValue, IsPiece, IsOfMode, HasLo
 use Rattle.line_fields.specs.meaning.Fields.{has_bytes, is_blank, is_digit, number_of, words_of, is_dash}
 use Rattle.job_io.specs.meaning.Lines.{HasNoLf, cr, lf, without_cr}
 use Rattle.line_fields.proofs.Decimals.{digits-decimal, has_bytes-decimal, id_of-decimal, number_of-decimal}
-use Rattle.record_text.specs.meaning.Text.{done_text, member_text, record_line, after_space}
+use Rattle.record_text.specs.meaning.Text.{done_text, head_text, member_text, record_line, after_space}
 use Rattle.record_text.specs.declared.read.RecordLine.{RecordLine}
-use Rattle.record_text.specs.declared.read.RecordLine.TheVariants.{Rem, Add, Done}
-use Rattle.record_text.specs.meaning.Grammar.{are_alike, edge_of_ends, line_said, member_of, member_of_parts, members_said, piece_made, piece_said, record_of}
-use Rattle.record_text.specs.meaning.Writable.{HasShortIds, IsStamp, IsWritable}
+use Rattle.record_text.specs.declared.read.RecordLine.TheVariants.{Head, Rem, Add, Done}
+use Rattle.record_text.specs.meaning.Grammar.{are_alike, edge_of_ends, line_said, member_of, member_of_parts, members_said, piece_made, piece_said, record_of, stamped_said}
+use Rattle.record_text.specs.meaning.Writable.{HasShortIds, IsCount, IsStamp, IsWritable}
 use Rattle.record_text.proofs.Pieces.{Makes, piece_made-of, mode_itself}
 use Rattle.record_text.proofs.Words.{slice_split-digits}
 use Rattle.shared_lemmas.proofs.Ascending.{ascending_from_sorted}
@@ -229,18 +229,37 @@ pub rem_written : (t : ℕ) (piece : PieceValue) (line : List ℕ) → IsStamp t
 rem_written t piece line fits can is_line =
     record_written (codes "REM") t piece line (Rem t piece) (record { some = refl; graphic = refl }) fits can is_line
     (λ m members is.
-    ap (λ o. option_and_then (λ t. option_map (λ piece. Rem t piece) (piece_said (map member_text (m ∷ members)))) o) (stamp_read t fits)
+    ap (option_and_then (λ t. stamped_said (codes "REM") t (map member_text (m ∷ members)))) (stamp_read t fits)
     ∙ ap (option_map (λ piece. Rem t piece)) (piece_said-texts m members piece can is))
 
 pub new_written : (t : ℕ) (piece : PieceValue) (line : List ℕ) → IsStamp t → IsWritable piece → line ++ codes "\n" ≡ record_line (codes "NEW") t piece.members → IsWritten line (Add t piece)
 new_written t piece line fits can is_line =
     record_written (codes "NEW") t piece line (Add t piece) (record { some = refl; graphic = refl }) fits can is_line
     (λ m members is.
-    ap (λ o. option_and_then (λ t. option_map (λ piece. Add t piece) (piece_said (map member_text (m ∷ members)))) o) (stamp_read t fits)
+    ap (option_and_then (λ t. stamped_said (codes "NEW") t (map member_text (m ∷ members)))) (stamp_read t fits)
     ∙ ap (option_map (λ piece. Add t piece)) (piece_said-texts m members piece can is))
 
-pub done_written : (t : ℕ) (line : List ℕ) → IsStamp t → line ++ codes "\n" ≡ done_text t → IsWritten line (Done t)
-done_written t line fits is_line =
-    written (codes "DONE") (decimal t ∷ []) line (Done t) (record { some = refl; graphic = refl }) (IsWord-decimal t fits, tt)
-    (append_cancel_right line (spread (codes "DONE") (decimal t ∷ [])) (codes "\n") (is_line ∙ ap (λ text. codes "DONE " ++ text ++ codes "\n") (sym (append-nil (decimal t)))))
-    (ap (option_map (λ t. Done t)) (stamp_read t fits))
+done_alone : (t : ℕ) (line : List ℕ) → IsStamp t → line ++ codes "\n" ≡ done_text t None → IsWritten line (Done t None)
+done_alone t line fits is_line =
+    written (codes "DONE") (decimal t ∷ []) line (Done t None) (record { some = refl; graphic = refl }) (IsWord-decimal t fits, tt)
+    (append_cancel_right line (spread (codes "DONE") (decimal t ∷ [])) (codes "\n") is_line)
+    (ap (option_and_then (λ t. stamped_said (codes "DONE") t [])) (stamp_read t fits))
+
+done_counted : (t n : ℕ) (line : List ℕ) → IsStamp t → n < 2 ^ 64 → line ++ codes "\n" ≡ done_text t (Some n) → IsWritten line (Done t (Some n))
+done_counted t n line fits few is_line =
+    let words = decimal t ∷ decimal n ∷ [] in
+    let tail : codes "DONE " ++ decimal t ++ after_space (decimal n) ≡ spread (codes "DONE") words =
+    ap (λ text. codes "DONE " ++ decimal t ++ (codes " " ++ text)) (sym (append-nil (decimal n))) in
+    written (codes "DONE") words line (Done t (Some n)) (record { some = refl; graphic = refl }) (IsWord-decimal t fits, (IsWord-decimal n few, tt))
+    (append_cancel_right line (spread (codes "DONE") words) (codes "\n") (is_line ∙ ap (λ text. text ++ codes "\n") tail))
+    (ap (option_and_then (λ t. stamped_said (codes "DONE") t (decimal n ∷ []))) (stamp_read t fits)
+    ∙ ap (λ o. option_map (λ count. Done t count) (option_map (λ n. Some n) o)) (stamp_read n few))
+
+pub done_written : (t : ℕ) (count : Option ℕ) (line : List ℕ) → IsStamp t → IsCount count → line ++ codes "\n" ≡ done_text t count → IsWritten line (Done t count)
+done_written t None line fits few is_line = done_alone t line fits is_line
+done_written t (Some n) line fits few is_line = done_counted t n line fits few is_line
+
+pub head_written : (line : List ℕ) → line ++ codes "\n" ≡ head_text → IsWritten line Head
+head_written line is_line =
+    written (codes "records") (codes "2" ∷ []) line Head (record { some = refl; graphic = refl }) (record { some = refl; graphic = refl }, tt)
+    (append_cancel_right line (codes "records 2") (codes "\n") is_line) refl

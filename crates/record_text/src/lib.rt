@@ -1,11 +1,13 @@
 //! Records, as text: what an update took away and brought, a line each, and the line that closes a
-//! timestamp. They are written and read back. Pieces alone are written too, a line each.
+//! timestamp. They are written and read back, in two formats. Pieces alone are written too, a line each.
 #![tactic(auto)]
 
 pub mod laws;
 mod line;
 mod read;
+mod record_format;
 mod write;
 
 pub use read::{BadRecord, RecordLine, read_record};
-pub use write::{write_delta, write_done, write_listing};
+pub use record_format::RecordFormat;
+pub use write::{write_delta, write_done, write_head, write_listing};

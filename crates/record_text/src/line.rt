@@ -32,13 +32,17 @@ pub fn listed(piece: &Piece) -> ShortLine
     line
 }
 
-/// The line that closes a timestamp.
-pub fn done(t: Stamp) -> ShortLine
-    ensures { result ≡ done_text t }
+/// The line that closes a timestamp: at most 47 bytes.
+pub fn done(t: Stamp, count: Option<u64>) -> ShortLine
+    ensures { result ≡ done_text t count }
 {
     let mut line = ShortLine::new();
     line.push(b"DONE ");
     line.push_number(t.0);
+    if let Some(count) = count {
+        line.push(b" ");
+        line.push_number(count);
+    }
     line.push(b"\n");
     line
 }

@@ -2,7 +2,7 @@ ghost use Rattle.std.specs.Prelude.{◌≡◌, ◌∷◌, [], IsTrue, MatchOptio
 ghost use Rattle.std.specs.List.{slice_split};
 ghost use Rattle.graph_types.specs.meaning.Piece.{CanJoin, with_joined, member_lt, mode_of};
 ghost use Rattle.line_fields.specs.meaning.Fields.{words_of, is_dash};
-ghost use Rattle.record_text.specs.meaning.Grammar.{edge_said, member_of, piece_said, record_of, record_said};
+ghost use Rattle.record_text.specs.meaning.Grammar.{count_said, edge_said, head_said, member_of, piece_said, record_of, record_said, stamped_said};
 
 use graph_types::{Edge, Member, Mode, Piece, Stamp};
 use line_fields::{is_nothing, read_id, read_number, rest, word};
@@ -13,12 +13,14 @@ use thiserror::Error;
 pub enum RecordLine {
     /// The line is blank or a comment.
     Nothing,
+    /// The text is in format 2.
+    Head,
     /// The piece went at this timestamp.
     Rem { stamp: Stamp, piece: Piece },
     /// The piece came at this timestamp.
     Add { stamp: Stamp, piece: Piece },
-    /// The records of this timestamp are complete.
-    Done { stamp: Stamp },
+    /// The records of this timestamp are complete. In format 2 the line says how many pieces are there.
+    Done { stamp: Stamp, count: Option<u64> },
 }
 
 /// The line is in none of the forms of a record.
@@ -26,7 +28,7 @@ pub enum RecordLine {
 #[error("the line is no record")]
 pub struct BadRecord;
 
-/// The most digits of a timestamp.
+/// The most digits of a timestamp or a count.
 const STAMP_DIGITS: usize = 20;
 
 /// Reads a line whose CR was dropped, in time linear in its bytes. Takes no memory.
@@ -46,21 +48,53 @@ fn read_words(line: &[u8]) -> Option<RecordLine>
     ensures { result ≡ record_said (words_of line.now) }
 {
     let (kind, behind) = split_word(line)?;
-    let (number, members) = split_word(behind)?;
-    let stamp = Stamp(read_number(number, STAMP_DIGITS)?);
-    if kind == b"DONE".as_slice() {
-        return match split_word(members) {
-            None => Some(RecordLine::Done { stamp }),
-            Some(_) => None,
-        };
+    let (number, rest) = split_word(behind)?;
+    if kind == b"records".as_slice() {
+        return read_head(number, rest);
     }
-    let piece = read_piece(members)?;
+    let stamp = Stamp(read_number(number, STAMP_DIGITS)?);
+    read_stamped(kind, stamp, rest)
+}
+
+/// Reads what stands after `records`.
+fn read_head(number: &[u8], rest: &[u8]) -> Option<RecordLine>
+    ensures { result ≡ head_said number.now (words_of rest.now) }
+{
+    match split_word(rest) {
+        None if number == b"2".as_slice() => Some(RecordLine::Head),
+        _ => None,
+    }
+}
+
+/// Reads what stands after a word and a timestamp.
+fn read_stamped(kind: &[u8], stamp: Stamp, rest: &[u8]) -> Option<RecordLine>
+    ensures { result ≡ stamped_said kind.now stamp (words_of rest.now) }
+{
+    if kind == b"DONE".as_slice() {
+        let count = read_count(rest)?;
+        return Some(RecordLine::Done { stamp, count });
+    }
     if kind == b"REM".as_slice() {
-        Some(RecordLine::Rem { stamp, piece })
-    } else if kind == b"NEW".as_slice() {
-        Some(RecordLine::Add { stamp, piece })
-    } else {
-        None
+        let piece = read_piece(rest)?;
+        return Some(RecordLine::Rem { stamp, piece });
+    }
+    if kind == b"NEW".as_slice() {
+        let piece = read_piece(rest)?;
+        return Some(RecordLine::Add { stamp, piece });
+    }
+    None
+}
+
+/// Reads the count that may end a line.
+fn read_count(line: &[u8]) -> Option<Option<u64>>
+    ensures { result ≡ count_said (words_of line.now) }
+{
+    let Some((number, rest)) = split_word(line) else {
+        return Some(None);
+    };
+    match split_word(rest) {
+        None => read_number(number, STAMP_DIGITS).map(Some),
+        Some(_) => None,
     }
 }
 

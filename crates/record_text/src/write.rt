@@ -1,7 +1,7 @@
 ghost use Rattle.std.specs.Prelude.{◌≡◌, ◌++◌};
 ghost use Rattle.graph_types.specs.meaning.Piece.{members_of_all};
 ghost use Rattle.job_io.specs.calls.Ends.{Gathers, HasCause};
-ghost use Rattle.record_text.specs.meaning.Text.{delta_text, done_text, records_text};
+ghost use Rattle.record_text.specs.meaning.Text.{delta_text, done_text, head_text, records_text};
 ghost use Rattle.record_text.specs.meaning.Listing.{listing_text};
 
 use crate::line::{done, listed, record};
@@ -25,14 +25,28 @@ pub fn write_delta<O: Sink>(
     write_records(out, page, b"NEW", t, add)
 }
 
-/// Writes the line that closes a timestamp. What the page still holds is not out yet. Takes no
-/// memory.
-pub fn write_done<O: Sink>(out: &mut O, page: &mut Page, t: Stamp) -> Result<(), WriteFault>
+/// Writes the line that closes a timestamp, with the number of pieces there in format 2. What the page
+/// still holds is not out yet. Takes no memory.
+pub fn write_done<O: Sink>(
+    out: &mut O,
+    page: &mut Page,
+    t: Stamp,
+    count: Option<u64>,
+) -> Result<(), WriteFault>
     ensures text { Gathers (O.written out.old) page.old (O.written out.new) page.new
-        (done_text t) result }
+        (done_text t count) result }
     ensures cause { HasCause (O.faults out.old) (O.faults out.new) result }
 {
-    page.put(out, &done(t))
+    page.put(out, &done(t, count))
+}
+
+/// Writes the first line of a text in format 2. What the page still holds is not out yet. Takes no
+/// memory.
+pub fn write_head<O: Sink>(out: &mut O, page: &mut Page) -> Result<(), WriteFault>
+    ensures text { Gathers (O.written out.old) page.old (O.written out.new) page.new head_text result }
+    ensures cause { HasCause (O.faults out.old) (O.faults out.new) result }
+{
+    page.put(out, b"records 2\n")
 }
 
 /// Writes the pieces, each on a line of its own. What the page still holds is not out yet. Takes no

@@ -16,38 +16,10 @@ use Rattle.snapshot_fold.specs.meaning.FoldState.{FoldState, empty_fold}
 use Rattle.snapshot_fold.specs.meaning.Folding.{state_after_one_line, is_reached, outcome_at_end, outcome_after, fold_outcome_from, fold_outcome}
 use Rattle.snapshot_fold.specs.meaning.Folding.{last_done_from, last_done}
 use Rattle.snapshot_fold.specs.calls.Folds.{IsToCome, IsUnended, FoldsRecords, AreTold}
+use Rattle.snapshot_fold.specs.calls.Standing.{IsNotPast, Reached, AtLine, Stands}
 use Rattle.snapshot_fold.specs.calls.Reading.{IsOutcome, LeadsOn, LinesComeTo, TakesLine}
 use Rattle.snapshot_fold.proofs.Judging.{Moves, stays, rises, one_line-says, line-closes}
 use Rattle.snapshot_fold.proofs.Told.{folded_from-reached, folded_from-cons, rest_from, told}
-
--- the timestamp that is named, if one is, is not below the last that is done
-abbrev pub IsNotPast : Option ℕ → ℕ → Type 0
-IsNotPast None done = Unit {0}
-IsNotPast (Some t) done = done ≤ t
-
--- These whole lines lead to a fold: whatever lines follow, all come to what those after the fold do.
-pub record Reached (most : ℕ) (at : Option ℕ) (gone : List Line) (n : ℕ) (s : FoldState) : Type 0 where
-  pub folds : (lines : List Line) → fold_outcome most at (gone ++ lines) ≡ fold_outcome_from most at n s lines
-  pub folds_all : (lines : List Line) → fold_outcome most None (gone ++ lines) ≡ fold_outcome_from most None n s lines
-  pub last : (lines : List Line) → last_done (gone ++ lines) ≡ last_done_from s.done lines
-  pub not_past : IsNotPast at s.done
-
--- Of the text `bytes` whole lines were read that lead to a fold, and `is` is left in the source.
-pub record AtLine (at : Option ℕ) (bytes is : List ℕ) (reader : Reading) (s : FoldState) : Type 0 where
-  pub gone : List Line
-  pub lines : lines_of bytes ≡ gone ++ lines_of (reader.held ++ is)
-  pub reached : Reached reader.most at gone reader.number s
-  pub given : List ℕ
-  pub split : bytes ≡ given ++ (reader.held ++ is)
-  pub whole_lines : (more : List ℕ) → whole_lines_of (given ++ more) ≡ gone ++ whole_lines_of more
-
--- What a fold has come to between two lines, since its source had left0.
-pub record Stands (most : ℕ) (at : Option ℕ) (left0 left : Option (List ℕ)) (reader : Reading) (s : FoldState) : Type 0 where
-  pub known : BothKnown left0 left (λ bytes is. AtLine at bytes is reader s)
-  pub whole : IsTrue reader.line.whole
-  pub live : IsTrue reader.live
-  pub most_is : reader.most ≡ most
-  pub few : reader.number ≤ most
 
 not_past-start : (at : Option ℕ) → IsNotPast at 0
 not_past-start None = tt
@@ -112,7 +84,7 @@ module _ (most : ℕ) (at : Option ℕ) (gone : List Line) (n : ℕ) (s behind :
       }
 
 -- a whole line is the first of the whole lines
-first_whole : (line : Line) (more : List ℕ) → line.whole ≡ true → HasNoLf line.bytes →
+pub first_whole : (line : Line) (more : List ℕ) → line.whole ≡ true → HasNoLf line.bytes →
     whole_lines_of (line_text line ++ more) ≡ line ∷ whole_lines_of more
 first_whole line more whole no_lf =
     let line_is : record { bytes = line.bytes; whole = true } ≡ line =

@@ -1,7 +1,7 @@
 -- What one line does to a fold.
-use Rattle.std.proofs.Common.{◌≡◌, ℕ, ◌+◌, ◌<◌, ◌≤◌, Bool, true, false, cond}
+use Rattle.std.proofs.Common.{◌≡◌, ℕ, ◌+◌, ◌<◌, ◌≤◌, Bool, true, false, cond, eqb}
 use Rattle.std.proofs.Common.{not, length, None, Some, Option, Result, Ok, Err}
-use Rattle.std.proofs.Common.{refl, sym, ap, ◌∙◌, arith}
+use Rattle.std.proofs.Common.{refl, sym, ap, ◌∙◌, subst, inl, arith}
 use Rattle.std.specs.Prelude.{nat_lt}
 use Rattle.std.specs.Option.{option_and_then}
 use Rattle.std.proofs.lemmas.Bool.{eqb-true}
@@ -9,16 +9,19 @@ use Rattle.std.proofs.lemmas.Bool.Decides.{nat_tests}
 use Rattle.job_io.specs.meaning.Lines.{Line, without_cr, most_line_bytes}
 use Rattle.record_text.specs.meaning.Grammar.{record_of}
 use Rattle.record_text.specs.declared.read.RecordLine.{RecordLine}
-use Rattle.record_text.specs.declared.read.RecordLine.TheVariants.{Nothing, Rem, Add, Done}
+use Rattle.record_text.specs.declared.read.RecordLine.TheVariants.{Nothing, Head, Rem, Add, Done}
 use Rattle.snapshot_fold.specs.declared.fault.FoldRefusal.{FoldRefusal}
-use Rattle.snapshot_fold.specs.declared.fault.FoldRefusal.TheVariants.{MixedModes, OutOfOrder, AddsPresent, RemovesAbsent}
+use Rattle.snapshot_fold.specs.declared.fault.FoldRefusal.TheVariants.{WrongForm, MixedModes, OutOfOrder, AddsPresent, RemovesAbsent, WrongCount}
+use Rattle.snapshot_fold.specs.declared.fault.FoldFault.TheVariants as fault
+use Rattle.snapshot_fold.specs.calls.Reading.{IsStopOf}
 use Rattle.snapshot_fold.specs.declared.folding.FoldStop.{FoldStop}
 use Rattle.snapshot_fold.specs.declared.folding.FoldStop.TheVariants as stop
 use Rattle.snapshot_fold.specs.meaning.FoldState.{FoldState}
 use Rattle.snapshot_fold.specs.meaning.FoldText.{state_after_line, accepted_state}
 use Rattle.snapshot_fold.specs.meaning.Folding.{state_or_stop, state_after_content, state_after_one_line, done_after_record}
 use Rattle.snapshot_fold.specs.meaning.Pieces.{has_piece}
-use Rattle.snapshot_fold.specs.meaning.Taking.{state_after_record, is_of_other_mode, is_open, goes_in_order, comes_in_order}
+use Rattle.snapshot_fold.specs.meaning.Taking.{IsRecordFault, state_after_record, state_in_form, with_format, closed_with, is_of_other_mode, is_open, goes_in_order, comes_in_order}
+use Rattle.snapshot_fold.specs.meaning.Forms.{is_of_form, format_after}
 use Rattle.snapshot_fold.specs.meaning.Taking.{after_rem, after_new, after_done}
 
 module _ {E : Type 0} (e : E) (behind : FoldState) (r : Result FoldState E) where
@@ -27,7 +30,7 @@ module _ {E : Type 0} (e : E) (behind : FoldState) (r : Result FoldState E) wher
   passes true so = cc
   passes false so = so
 
-  meets : (b : Bool) → cond b r (Err e) ≡ Ok behind → r ≡ Ok behind
+  pub meets : (b : Bool) → cond b r (Err e) ≡ Ok behind → r ≡ Ok behind
   meets true so = so
   meets false so = cc
 
@@ -48,32 +51,72 @@ closes-same s behind said same done settled = record {
   moves = stays done settled;
 }
 
-pub taken-closes : (s behind : FoldState) (said : RecordLine) → state_after_record s said ≡ Ok behind → Closes s behind said
-taken-closes s behind Nothing so =
-    let e : s ≡ behind = cc in
-    closes-same s behind Nothing refl (ap (λ (x : FoldState). x.done) (sym e)) (ap (λ (x : FoldState). x.settled) (sym e))
-taken-closes s behind (Rem t p) so =
+closes-kept : (s behind : FoldState) (said : RecordLine) → done_after_record s.done (Some said) ≡ s.done → s ≡ behind → Closes s behind said
+closes-kept s behind said same e =
+    closes-same s behind said same (ap (λ (x : FoldState). x.done) (sym e)) (ap (λ (x : FoldState). x.settled) (sym e))
+
+pub closed-ok : (s behind : FoldState) (t : ℕ) (count : Option ℕ) → closed_with s t count ≡ Ok behind → after_done s t ≡ behind
+closed-ok s behind t None so = cc
+closed-ok s behind t (Some n) so =
+    let fine = meets (WrongCount n (length s.held)) behind (Ok (after_done s t)) (eqb n (length s.held)) so in cc
+
+in_form-closes : (s behind : FoldState) (said : RecordLine) → state_in_form s said ≡ Ok behind → Closes s behind said
+in_form-closes s behind Nothing so = closes-kept s behind Nothing refl (let e : s ≡ behind = cc in e)
+in_form-closes s behind Head so = closes-kept s behind Head refl (let e : s ≡ behind = cc in e)
+in_form-closes s behind (Rem t p) so =
     let of_mode = passes MixedModes behind _ (is_of_other_mode s p) so in
     let in_order = passes OutOfOrder behind _ (not (goes_in_order s t p)) of_mode in
     let there = meets RemovesAbsent behind (Ok (after_rem s p)) (has_piece s.held p) in_order in
     let e : after_rem s p ≡ behind = cc in
     closes-same s behind (Rem t p) refl (ap (λ (x : FoldState). x.done) (sym e)) (ap (λ (x : FoldState). x.settled) (sym e))
-taken-closes s behind (Add t p) so =
+in_form-closes s behind (Add t p) so =
     let of_mode = passes MixedModes behind _ (is_of_other_mode s p) so in
     let in_order = passes OutOfOrder behind _ (not (comes_in_order s t p)) of_mode in
     let absent = passes AddsPresent behind (Ok (after_new s p)) (has_piece s.held p) in_order in
     let e : after_new s p ≡ behind = cc in
     closes-same s behind (Add t p) refl (ap (λ (x : FoldState). x.done) (sym e)) (ap (λ (x : FoldState). x.settled) (sym e))
-taken-closes s behind (Done t) so =
-    let by_test : (b : Bool) → is_open s t ≡ b → cond b (Ok (after_done s t)) (Err OutOfOrder) ≡ Ok behind → Closes s behind (Done t) =
+in_form-closes s behind (Done t count) so =
+    let by_test : (b : Bool) → is_open s t ≡ b → cond b (closed_with s t count) (Err OutOfOrder) ≡ Ok behind → Closes s behind (Done t count) =
     elim [
       | true ↦ λ open_is so.
-          let e : after_done s t ≡ behind = cc in
+          let e = closed-ok s behind t count so in
           let done : t ≡ behind.done = ap (λ (x : FoldState). x.done) e in
           record { done_is = done; moves = rises (sym done ∙ eqb-true t (s.done + 1) open_is) }
       | false ↦ λ _ so. cc
     ] in
     by_test (is_open s t) refl so
+
+-- a record that is accepted has the form of its text, and leads on in that form
+pub record InForm (s behind : FoldState) (said : RecordLine) : Type 0 where
+  pub form : is_of_form s.format said ≡ true
+  pub mid : FoldState
+  pub taken : state_in_form s said ≡ Ok mid
+  pub is : record mid { format = format_after mid.format said } ≡ behind
+
+pub in_form : (s behind : FoldState) (said : RecordLine) → state_after_record s said ≡ Ok behind → InForm s behind said
+in_form s behind said so =
+    let by_result : is_of_form s.format said ≡ true → (r : Result FoldState FoldRefusal) → state_in_form s said ≡ r → with_format said r ≡ Ok behind → InForm s behind said =
+    λ form. elim [
+      | Ok mid ↦ λ taken so.
+          let e : record mid { format = format_after mid.format said } ≡ behind = cc in record { form = form; mid = mid; taken = taken; is = e }
+      | Err why ↦ λ _ so. cc
+    ] in
+    let by_test : (b : Bool) → is_of_form s.format said ≡ b → cond b (with_format said (state_in_form s said)) (Err WrongForm) ≡ Ok behind → InForm s behind said =
+    elim [
+      | true ↦ λ form so. by_result form (state_in_form s said) refl so
+      | false ↦ λ _ so. cc
+    ] in
+    by_test (is_of_form s.format said) refl so
+
+moves-format : (s mid : FoldState) (said : RecordLine) → Moves s mid → Moves s (record mid { format = format_after mid.format said })
+moves-format s mid said (stays done settled) = stays done settled
+moves-format s mid said (rises done) = rises done
+
+pub taken-closes : (s behind : FoldState) (said : RecordLine) → state_after_record s said ≡ Ok behind → Closes s behind said
+taken-closes s behind said so =
+    let formed = in_form s behind said so in
+    let closes = in_form-closes s formed.mid said formed.taken in
+    subst (λ b. Closes s b said) formed.is (record { done_is = closes.done_is; moves = moves-format s formed.mid said closes.moves })
 
 -- A whole line says a record that is accepted.
 pub record SaysRecord (s behind : FoldState) (line : Line) : Type 0 where
@@ -89,6 +132,11 @@ said_at-ok : (n : ℕ) (s behind : FoldState) (o : Option RecordLine) → state_
     (said : RecordLine) × (o ≡ Some said) × (state_after_record s said ≡ Ok behind)
 said_at-ok n s behind None so = cc
 said_at-ok n s behind (Some said) so = (said, refl, taken_at-ok n behind (state_after_record s said) so)
+
+-- a record that is refused stops the fold at its line
+pub refused_at : (n : ℕ) (r : Result FoldState FoldRefusal) (why : FoldRefusal) → IsRecordFault r (fault.Refused why) → IsStopOf (state_or_stop n r) (stop.Refused n why)
+refused_at n (Ok behind) why is = cc
+refused_at n (Err other) why is = let same : other ≡ why = cc in inl (ap (λ w. Err (stop.Refused n w)) same)
 
 module _ (most n : ℕ) (s : FoldState) (line : Line) where
   -- what the line says, where it is whole

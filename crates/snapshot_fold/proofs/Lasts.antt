@@ -22,10 +22,11 @@ last_of-at (q ∷ []) (suc n) p long is = absurd (omega (arith, long))
 last_of-at (q ∷ r ∷ pieces) zero p long is = absurd (omega (arith, long))
 last_of-at (q ∷ r ∷ pieces) (suc n) p long is = last_of-at (r ∷ pieces) n p (omega (arith, long)) is
 
-pub no_last : (pieces : List PieceValue) → last_of pieces ≡ None → pieces ≡ []
-no_last [] none = refl
-no_last (q ∷ []) none = absurd (cc)
-no_last (q ∷ r ∷ pieces) none = let e = no_last (r ∷ pieces) none in absurd (cc)
+-- where there is no last one there is none
+pub none_last : (pieces : List PieceValue) → is_none (last_of pieces) ≡ true → pieces ≡ []
+none_last [] none = refl
+none_last (q ∷ []) none = absurd (false≢true none)
+none_last (q ∷ r ∷ pieces) none = let e = none_last (r ∷ pieces) none in absurd (cc)
 
 pub some_last : (pieces : List PieceValue) → (pieces ≡ [] → ⊥) → is_none (last_of pieces) ≡ false
 some_last [] some = absurd (some refl)

@@ -5,6 +5,7 @@ pub mod Snapshots
 pub mod Steps
 pub mod Saying
 pub mod Prefixes
+pub mod Totals
 pub mod Accepting
 pub mod Telling
 pub mod Undone

@@ -8,10 +8,10 @@ use Rattle.graph_types.specs.meaning.Piece.{PieceValue}
 use Rattle.job_io.specs.meaning.Lines.{lf, Line, whole_lines_of, without_cr}
 use Rattle.job_io.proofs.LinesOf.{lf_or_none, whole_lines_of-none, whole_lines_of-whole}
 use Rattle.record_text.specs.declared.read.RecordLine.{RecordLine}
-use Rattle.record_text.specs.declared.read.RecordLine.TheVariants.{Nothing, Rem, Add, Done}
+use Rattle.record_text.specs.declared.read.RecordLine.TheVariants.{Nothing, Head, Rem, Add, Done}
 use Rattle.record_text.specs.meaning.Grammar.{record_of}
 use Rattle.snapshot_fold.specs.declared.fault.FoldRefusal.{FoldRefusal}
-use Rattle.snapshot_fold.specs.meaning.Accepted.{SayDone, state_after_lines}
+use Rattle.snapshot_fold.specs.meaning.Accepted.{SayDone, SaysDone, state_after_lines}
 use Rattle.snapshot_fold.specs.meaning.FoldState.{FoldState, empty_fold}
 use Rattle.snapshot_fold.specs.meaning.FoldText.{accepted_state, fold_text, pieces_where_done, state_after_line}
 use Rattle.snapshot_fold.specs.meaning.Folding.{done_after_record, last_done_from}
@@ -176,12 +176,13 @@ told-within s end (line ∷ lines) t pieces is told =
     by_test (eqb leads.next.done t) refl (sym (told-cons s leads.next line lines t leads.first) ∙ told)
 
 -- a record after which another timestamp is the last says so
-says_done : (d t : ℕ) (said : Option RecordLine) → done_after_record d said ≡ t → d ≢ t → said ≡ Some (Done t)
+says_done : (d t : ℕ) (said : Option RecordLine) → done_after_record d said ≡ t → d ≢ t → SaysDone said t
 says_done d t None is other = absurd (other is)
 says_done d t (Some Nothing) is other = absurd (other is)
+says_done d t (Some Head) is other = absurd (other is)
 says_done d t (Some (Rem u p)) is other = absurd (other is)
 says_done d t (Some (Add u p)) is other = absurd (other is)
-says_done d t (Some (Done u)) is other = ap (λ v. Some (Done v)) is
+says_done d t (Some (Done u count)) is other = (count, ap (λ v. Some (Done v count)) is)
 
 -- a timestamp that is told is said to be done
 pub told-SayDone : (s : FoldState) (lines : List Line) (t : ℕ) (pieces : List PieceValue) → s.done ≢ t → pieces_where_done s lines t ≡ Some pieces → SayDone lines t
@@ -207,7 +208,7 @@ SayDone-told s end (line ∷ lines) t is say =
       | true ↦ λ _. refl
       | false ↦ λ apart.
           elim say as (λ _. IsTrue (is_some (pieces_where_done leads.next lines t))) [
-            | inl here ↦ absurd (eqb-false leads.next.done t apart (sym closes ∙ ap (done_after_record s.done) here))
+            | inl here ↦ absurd (eqb-false leads.next.done t apart (sym closes ∙ ap (done_after_record s.done) here.1))
             | inr later ↦ SayDone-told leads.next end lines t leads.rest later
           ]
     ] in

@@ -11,12 +11,13 @@ use Rattle.std.proofs.Math.Bool.{or-false}
 use Rattle.graph_types.specs.declared.ids.Mode.{Mode}
 use Rattle.graph_types.specs.meaning.Orders.{piece_cmp_total}
 use Rattle.graph_types.specs.meaning.Piece.{PieceValue, piece_cmp}
+use Rattle.record_text.specs.declared.record_format.RecordFormat.{RecordFormat}
 use Rattle.graph_types.proofs.Members.{piece_cmp-IsAntisymmetric}
-use Rattle.snapshot_fold.specs.meaning.FoldState.{FoldState}
+use Rattle.snapshot_fold.specs.meaning.FoldState.{FoldState, last_new, last_rem}
 use Rattle.snapshot_fold.specs.meaning.Pieces.{is_above, has_piece, is_same_piece, last_of, with_piece, without_piece}
 use Rattle.snapshot_fold.specs.meaning.Taking.{after_done, after_new, after_rem}
 use Rattle.snapshot_fold.specs.storage.Undone.{IsOpen, pieces_before_open}
-use Rattle.snapshot_fold.proofs.Lasts.{all_below_next, last_of-push, no_last}
+use Rattle.snapshot_fold.proofs.Lasts.{all_below_next}
 use Rattle.snapshot_fold.proofs.Undone.{Ascends, among-undone, undone-ascends}
 use Rattle.shared_lemmas.proofs.Ascending.{IsStrictlySortedBy-append, sorted-one}
 use Rattle.shared_lemmas.proofs.Claims.{all-weaker}
@@ -129,64 +130,69 @@ undone-none (p ∷ held) = ap (λ rest. p ∷ rest) (undone-none held)
 -- ---- the fold
 
 -- what contracts see of what a fold keeps
-abbrev pub seen : Option Mode → ℕ → List PieceValue → List PieceValue → List PieceValue → FoldState
-seen mode done held went came = record {
+abbrev pub seen : Option RecordFormat → Option Mode → ℕ → List PieceValue → List PieceValue → List PieceValue → FoldState
+seen format mode done held went came = record {
+  format = format;
   mode = mode;
   done = done;
   settled = pieces_before_open held went came;
   held = held;
-  last_rem = last_of went;
-  last_new = last_of came;
+  went = went;
+  came = came;
 }
 
-module _ (s : FoldState) (mode : Option Mode) (done : ℕ) (held went came : List PieceValue) (view : seen mode done held went came ≡ s) (kept : IsOpen held went came) where
+module _ (s : FoldState) (format : Option RecordFormat) (mode : Option Mode) (done : ℕ) (held went came : List PieceValue)
+    (view : seen format mode done held went came ≡ s) (kept : IsOpen held went came) where
   -- a piece went that is there
-  pub after_rem_is : (p : PieceValue) (kind : Mode) (left more : List PieceValue) → s.last_new ≡ None → is_above s.last_rem p ≡ true → has_piece held p ≡ true → left ≡ without_piece held p → more ≡ went ++ p ∷ [] → kind ≡ p.mode →
-      IsOpen left more came × (seen (Some kind) done left more came ≡ after_rem s p)
+  pub after_rem_is : (p : PieceValue) (kind : Mode) (left more : List PieceValue) → s.came ≡ [] → is_above (last_rem s) p ≡ true → has_piece held p ≡ true → left ≡ without_piece held p → more ≡ went ++ p ∷ [] → kind ≡ p.mode →
+      IsOpen left more came × (seen format (Some kind) done left more came ≡ after_rem s p)
   after_rem_is p kind left more first above there left_is more_is kind_is =
-      let none : came ≡ [] = no_last came (ap (λ v. v.last_new) view ∙ first) in
+      let none : came ≡ [] = ap (λ v. v.came) view ∙ first in
       let kept' : IsOpen held went [] = subst (IsOpen held went) none kept in
-      let above' : is_above (last_of went) p ≡ true = ap (λ v. is_above v.last_rem p) view ∙ above in
+      let above' : is_above (last_of went) p ≡ true = ap (λ v. is_above (last_rem v) p) view ∙ above in
       let still = IsOpen-went held went p kept' above' there in
       let settled_is : pieces_before_open left more came ≡ s.settled =
       (λ i. pieces_before_open (left_is i) (more_is i) (none i)) ∙ undone-went held went p kept' above' there ∙ ap (pieces_before_open held went) (sym none) ∙ ap (λ v. v.settled) view in (
         subst (λ ls. IsOpen ls more came) (sym left_is) (subst (λ ms. IsOpen (without_piece held p) ms came) (sym more_is) (subst (IsOpen (without_piece held p) (went ++ p ∷ [])) (sym none) still)),
         λ i. record {
+          format = (view i).format;
           mode = Some (kind_is i);
           done = (view i).done;
           settled = settled_is i;
           held = (left_is ∙ ap (λ v. without_piece v.held p) view) i;
-          last_rem = (ap last_of more_is ∙ last_of-push went p) i;
-          last_new = (view i).last_new;
+          went = (more_is ∙ ap (λ v. v.went ++ p ∷ []) view) i;
+          came = (view i).came;
         },
       )
 
   -- a piece came that isn't there
-  pub after_new_is : (p : PieceValue) (kind : Mode) (now more : List PieceValue) → is_above s.last_new p ≡ true → has_piece held p ≡ false → now ≡ with_piece held p → more ≡ came ++ p ∷ [] → kind ≡ p.mode →
-      IsOpen now went more × (seen (Some kind) done now went more ≡ after_new s p)
+  pub after_new_is : (p : PieceValue) (kind : Mode) (now more : List PieceValue) → is_above (last_new s) p ≡ true → has_piece held p ≡ false → now ≡ with_piece held p → more ≡ came ++ p ∷ [] → kind ≡ p.mode →
+      IsOpen now went more × (seen format (Some kind) done now went more ≡ after_new s p)
   after_new_is p kind now more above absent now_is more_is kind_is =
-      let above' : is_above (last_of came) p ≡ true = ap (λ v. is_above v.last_new p) view ∙ above in
+      let above' : is_above (last_of came) p ≡ true = ap (λ v. is_above (last_new v) p) view ∙ above in
       let still = IsOpen-came held went came p kept above' absent in
       let settled_is : pieces_before_open now went more ≡ s.settled =
       (λ i. pieces_before_open (now_is i) went (more_is i)) ∙ undone-came held went came p kept above' absent ∙ ap (λ v. v.settled) view in (
         subst (λ ns. IsOpen ns went more) (sym now_is) (subst (IsOpen (with_piece held p) went) (sym more_is) still),
         λ i. record {
+          format = (view i).format;
           mode = Some (kind_is i);
           done = (view i).done;
           settled = settled_is i;
           held = (now_is ∙ ap (λ v. with_piece v.held p) view) i;
-          last_rem = (view i).last_rem;
-          last_new = (ap last_of more_is ∙ last_of-push came p) i;
+          went = (view i).went;
+          came = (more_is ∙ ap (λ v. v.came ++ p ∷ []) view) i;
         },
       )
 
   -- the timestamp t is done
-  pub after_done_is : (t : ℕ) → seen mode t held [] [] ≡ after_done s t
+  pub after_done_is : (t : ℕ) → seen format mode t held [] [] ≡ after_done s t
   after_done_is t i = record {
+    format = (view i).format;
     mode = (view i).mode;
     done = t;
     settled = (undone-none held ∙ ap (λ v. v.held) view) i;
     held = (view i).held;
-    last_rem = None;
-    last_new = None;
+    went = [];
+    came = [];
   }

@@ -101,7 +101,7 @@ module _ (old new : Reading) (s behind : FoldState) (was is : Option (List ℕ))
 
     module _ (whole : new.line.whole ≡ true) (n : ℕ) (bytes : List ℕ) (n_is : n ≡ new.number) (bytes_is : bytes ≡ without_cr new.line.bytes) where
       -- what the line says decides
-      says : state_after_one_line old.most (suc old.number) s new.line ≡ state_after_content n s (record_of bytes)
+      pub says : state_after_one_line old.most (suc old.number) s new.line ≡ state_after_content n s (record_of bytes)
       says =
           let number : suc old.number ≡ n = omega (arith, n_is, next.counted) in
           kept

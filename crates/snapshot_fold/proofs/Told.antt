@@ -18,7 +18,7 @@ use Rattle.snapshot_fold.specs.calls.Folds.{stamp_folded}
 use Rattle.snapshot_fold.proofs.Judging.{behind_line-is, one_line-says, one_line-torn}
 use Rattle.snapshot_fold.proofs.Prefixes.{last_done-accepted, settles}
 
-abbrev Outcome : Type 0
+abbrev pub Outcome : Type 0
 Outcome = Result (List PieceValue) FoldStop
 
 abbrev wholes : List Line → List Line
@@ -36,12 +36,12 @@ folded_from-reached most at n s (line ∷ lines) reached =
     ap (λ b. cond b (Ok s.settled) (outcome_after (state_after_one_line most (suc n) s line) (rest_from most at n line lines))) reached
 
 -- where lines led to pieces, the first of them led on
-record LedOn (led : Result FoldState FoldStop) (rest : FoldState → Outcome) (outcome : Outcome) : Type 0 where
-  behind : FoldState
-  led_is : led ≡ Ok behind
-  rest_is : rest behind ≡ outcome
+pub record LedOn (led : Result FoldState FoldStop) (rest : FoldState → Outcome) (outcome : Outcome) : Type 0 where
+  pub behind : FoldState
+  pub led_is : led ≡ Ok behind
+  pub rest_is : rest behind ≡ outcome
 
-led_on-ok : (led : Result FoldState FoldStop) (rest : FoldState → Outcome) (pieces : List PieceValue) →
+pub led_on-ok : (led : Result FoldState FoldStop) (rest : FoldState → Outcome) (pieces : List PieceValue) →
     outcome_after led rest ≡ Ok pieces → LedOn led rest (Ok pieces)
 led_on-ok (Ok behind) rest pieces so = record { behind = behind; led_is = refl; rest_is = so }
 led_on-ok (Err why) rest pieces so = cc

@@ -53,3 +53,15 @@ folded_short = refl
 folded_before : fold_outcome 1 (Some 1) (lines_of text) ≡ Ok []
 unfolding text
 folded_before = refl
+
+-- the same text in format 2 tells the same
+counted : List ℕ
+counted = codes "# a comment\nrecords 2\nDONE 1 0\nNEW 2 1 2 3\nDONE 2 1\nREM 3 1 2 3\nDONE 3 0\n"
+
+counted_at_second : fold_text counted 2 ≡ Some (triangle ∷ [])
+unfolding counted triangle
+counted_at_second = refl
+
+counted_at_third : fold_text counted 3 ≡ Some []
+unfolding counted
+counted_at_third = refl

@@ -1,6 +1,7 @@
 -- What is meant.
-pub mod FoldState
 pub mod Pieces
+pub mod FoldState
+pub mod Forms
 pub mod Taking
 pub mod FoldText
 pub mod Folding

@@ -4,6 +4,7 @@
 mod fault;
 mod fold;
 mod folding;
+mod forms;
 pub mod laws;
 mod listing;
 

@@ -9,7 +9,7 @@ use Rattle.graph_types.specs.declared.member.Member.TheVariants as member
 use Rattle.graph_types.specs.meaning.Piece.{PieceValue, member_cmp, mode_cmp, mode_of, most_members}
 use Rattle.line_fields.specs.meaning.Fields.{words_of, number_of, id_of, is_nothing_words, is_dash}
 use Rattle.record_text.specs.declared.read.RecordLine.{RecordLine}
-use Rattle.record_text.specs.declared.read.RecordLine.TheVariants.{Nothing, Rem, Add, Done}
+use Rattle.record_text.specs.declared.read.RecordLine.TheVariants.{Nothing, Head, Rem, Add, Done}
 use Rattle.shared_lemmas.specs.meaning.Ascending.{is_ascending}
 
 -- two ends make an edge where the first is below the second
@@ -50,17 +50,34 @@ piece_made (m ∷ members) =
 abbrev pub piece_said : List (List ℕ) → Option PieceValue
 piece_said words = option_and_then piece_made (members_said words)
 
--- a timestamp is 1 to 20 digits
+-- a timestamp or a count is 1 to 20 digits
 abbrev pub stamp_said : List ℕ → Option ℕ
 stamp_said word = number_of 20 word
 
--- `REM T MEMBER ..`, `NEW T MEMBER ..` or `DONE T`
-abbrev pub record_said : List (List ℕ) → Option RecordLine
-record_said (word ∷ stamp ∷ []) = if bytes_eq word (codes "DONE") then option_map (λ t. Done t) (stamp_said stamp) else None
-record_said (word ∷ stamp ∷ members) =
-    if bytes_eq word (codes "REM") then option_and_then (λ t. option_map (λ piece. Rem t piece) (piece_said members)) (stamp_said stamp)
-    else if bytes_eq word (codes "NEW") then option_and_then (λ t. option_map (λ piece. Add t piece) (piece_said members)) (stamp_said stamp)
+-- the count that the last words of a line say: there is none, or it is one number
+abbrev pub count_said : List (List ℕ) → Option (Option ℕ)
+count_said [] = Some None
+count_said (word ∷ []) = option_map (λ n. Some n) (stamp_said word)
+count_said words = None
+
+-- after the word `records` stands `2` alone
+abbrev pub head_said : List ℕ → List (List ℕ) → Option RecordLine
+head_said number [] = if bytes_eq number (codes "2") then Some Head else None
+head_said number rest = None
+
+-- what a word says with the timestamp and the words after it
+abbrev pub stamped_said : List ℕ → ℕ → List (List ℕ) → Option RecordLine
+stamped_said word t rest =
+    if bytes_eq word (codes "DONE") then option_map (λ count. Done t count) (count_said rest)
+    else if bytes_eq word (codes "REM") then option_map (λ piece. Rem t piece) (piece_said rest)
+    else if bytes_eq word (codes "NEW") then option_map (λ piece. Add t piece) (piece_said rest)
     else None
+
+-- `records 2`, `REM T MEMBER ..`, `NEW T MEMBER ..`, `DONE T` or `DONE T N`
+abbrev pub record_said : List (List ℕ) → Option RecordLine
+record_said (word ∷ number ∷ rest) =
+    if bytes_eq word (codes "records") then head_said number rest
+    else option_and_then (λ t. stamped_said word t rest) (stamp_said number)
 record_said words = None
 
 -- what the words of a line say, where they are in one of these forms, or nothing at all

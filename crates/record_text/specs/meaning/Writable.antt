@@ -1,5 +1,5 @@
 -- What a text of records can say: numbers that fit, and pieces that have a member.
-use Rattle.std.specs.Prelude.{◌≢◌, ℕ, ◌^◌, ◌<◌, []}
+use Rattle.std.specs.Prelude.{◌≢◌, ℕ, ◌^◌, ◌<◌, [], Option, None, Some}
 use Rattle.std.specs.List.{All}
 use Rattle.graph_types.specs.declared.member.Member.{Member}
 use Rattle.graph_types.specs.declared.member.Member.TheVariants as member
@@ -7,6 +7,11 @@ use Rattle.graph_types.specs.meaning.Piece.{PieceValue, IsPiece}
 
 abbrev pub IsStamp : ℕ → Type 0
 IsStamp t = t < 2 ^ 64
+
+-- a count, where there is one, fits 64 bits
+abbrev pub IsCount : Option ℕ → Type 0
+IsCount None = Unit {0}
+IsCount (Some n) = n < 2 ^ 64
 
 -- the ids of the member fit 32 bits
 abbrev pub HasShortIds : Member → Type 0

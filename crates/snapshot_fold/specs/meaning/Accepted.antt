@@ -17,10 +17,14 @@ use Rattle.snapshot_fold.specs.meaning.Records.{pieces_of}
 abbrev pub said_by : List ℕ → List (Option RecordLine)
 said_by text = map (λ line. record_of (without_cr line.bytes)) (whole_lines_of text)
 
+-- timestamp t is done, with a count or without one
+abbrev pub SaysDone : Option RecordLine → ℕ → Type 0
+SaysDone said t = (count : Option ℕ) × (said ≡ Some (Done t count))
+
 -- one of the lines says that timestamp t is done
 abbrev pub SayDone : List Line → ℕ → Type 0
 SayDone [] t = ⊥
-SayDone (line ∷ lines) t = (record_of (without_cr line.bytes) ≡ Some (Done t)) ⊎ SayDone lines t
+SayDone (line ∷ lines) t = SaysDone (record_of (without_cr line.bytes)) t ⊎ SayDone lines t
 
 -- the fold after some lines, where each is nothing, or a record that is not refused
 abbrev pub state_after_lines : FoldState → List Line → Option FoldState

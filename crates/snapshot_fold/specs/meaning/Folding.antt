@@ -63,7 +63,7 @@ fold_outcome most at lines = fold_outcome_from most at 0 empty_fold lines
 
 -- the last timestamp that is done after a line
 abbrev pub done_after_record : ℕ → Option RecordLine → ℕ
-done_after_record t (Some (Done u)) = u
+done_after_record t (Some (Done u count)) = u
 done_after_record t said = t
 
 abbrev pub last_done_from : ℕ → List Line → ℕ

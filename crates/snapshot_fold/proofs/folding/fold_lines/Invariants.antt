@@ -1,6 +1,6 @@
 -- Between two lines the fold stands where its lines led, and each line more is one of those allowed.
 use Rattle.std.proofs.Common.{◌-◌, ◌≤◌}
-use Rattle.snapshot_fold.proofs.Going.{Stands}
+use Rattle.snapshot_fold.specs.calls.Standing.{Stands}
 use Rattle.snapshot_fold.proofs.folding.fold_lines.Given as goal
 
 abbrev pub invariant-lines : goal.invariant-lines

@@ -1,7 +1,4 @@
-use Rattle.std.proofs.Common.{sym, ap, ◌∙◌, if◌then◌else◌}
-use Rattle.std.specs.Prelude.{Ok, Err}
-use Rattle.snapshot_fold.specs.declared.fault.FoldRefusal.TheVariants.{OutOfOrder}
-use Rattle.snapshot_fold.specs.meaning.Taking.{after_done}
+use Rattle.std.proofs.Common.{Ok, sym, ap, ◌∙◌}
 use Rattle.snapshot_fold.proofs.Steps.{IsOpen-done, seen, after_done_is}
 use Rattle.snapshot_fold.proofs.fold.Fold.take_done.Goals as goal
 
@@ -10,8 +7,7 @@ invariant_of-self c = rw (c.new.ensures, c.new-2.ensures) (IsOpen-done _ _ _ c.s
 
 pub returns-clause-ok : goal.returns-clause-ok
 returns-clause-ok c =
-    let s = c.args.self.now in
-    ap (λ b. if b then Ok (after_done s c.args.stamp) else Err OutOfOrder) (sym c.is_open.ensures ∙ c.if-not-is_open.false)
+    c.in_default.ensures
     ∙ ap Ok
-    (sym (after_done_is s c.self.inside.mode c.self.inside.done c.self.inside.pieces.keys c.self.inside.went c.self.inside.came c.self.view_is c.self.invariant c.args.stamp)
-    ∙ (λ i. seen c.self.inside.mode c.args.stamp c.self.inside.pieces.keys (sym c.new.ensures i) (sym c.new-2.ensures i)))
+    (sym (after_done_is c.args.self.now c.self.inside.format c.self.inside.mode c.self.inside.done c.self.inside.pieces.keys c.self.inside.went c.self.inside.came c.self.view_is c.self.invariant c.args.stamp)
+    ∙ (λ i. seen c.self.inside.format c.self.inside.mode c.args.stamp c.self.inside.pieces.keys (sym c.new.ensures i) (sym c.new-2.ensures i)))

@@ -1,0 +1,3 @@
+-- What the calls do, by their results.
+pub mod Migrates
+pub mod Turns
