@@ -1,10 +1,10 @@
 -- What the program and the updates of a job are like.
-use Rattle.std.proofs.Common.{◌≡◌, ℕ, zero, suc, ◌-◌, ◌^◌, ◌<◌, ◌≤◌, ◌&&◌, codes, List, [], ◌∷◌, length}
-use Rattle.std.proofs.Common.{nat_le, nat_lt, Option, None, Some, Result, Ok, Err, All, sym, ap, subst, ◌∙◌, arith}
+use Rattle.std.proofs.Common.{◌≡◌, ℕ, suc, ◌-◌, ◌^◌, ◌<◌, ◌≤◌, ◌&&◌, codes, List, [], ◌∷◌, length, length-append}
+use Rattle.std.proofs.Common.{nat_le, nat_lt, Option, None, Some, Result, Ok, Err, All, subst, arith}
 use Rattle.std.specs.Option.{IfSome, option_map}
 use Rattle.std.specs.Result.{IfOk}
 use Rattle.std.proofs.lemmas.Bool.{and_parts, cond_both, leb-true, ltb-true, ltb-false}
-use Rattle.std.proofs.lemmas.List.Elements.{All-cons, All-nil}
+use Rattle.std.proofs.lemmas.List.Elements.{All-cons, All-nil, All-append}
 use Rattle.graph_types.specs.meaning.Graph.{Graph}
 use Rattle.graph_types.specs.meaning.Piece.{most_members}
 use Rattle.graph_types.specs.declared.update.Update.{Update}
@@ -12,16 +12,16 @@ use Rattle.graph_types.specs.declared.update.Update.TheVariants.{AddVertex, Remo
 use Rattle.line_fields.specs.meaning.Fields.{words_of, id_of, is_number, value_after, is_label_word, is_nothing_line, number_of}
 use Rattle.job_io.specs.meaning.Lines.{Line, without_cr, most_line_bytes}
 use Rattle.mining_model.specs.meaning.Embeddings.{Pattern}
-use Rattle.mining_model.specs.meaning.History.{AddsShortId}
+use Rattle.mining_model.specs.meaning.History.{AddsShortId, Group}
 use Rattle.graph_types.specs.declared.refusal.Refusal.{Refusal}
-use Rattle.mining_model.specs.meaning.Step.{step}
+use Rattle.mining_model.specs.meaning.Step.{step, graph_after_all}
 use Rattle.line_fields.specs.meaning.Names.{Names, interning, no_name}
-use Rattle.update_reader.specs.meaning.Grammar.{LineContent, nothing, commit, update, too_many_labels, bad_line, content_of_line, content_of_form, content_of_labelled}
-use Rattle.update_reader.specs.meaning.Grammar.{Form, commit_form, unlabelled, labelled, no_form, form_with, form_after_keyword, form_of}
+use Rattle.update_reader.specs.meaning.Grammar.{LineContent, nothing, commit, batch_begin, batch_end, update, too_many_labels, bad_line, content_of_line, content_of_form, content_of_labelled}
+use Rattle.update_reader.specs.meaning.Grammar.{Form, commit_form, batch_form, end_form, unlabelled, labelled, no_form, form_with, form_after_keyword, form_of}
 use Rattle.update_reader.specs.meaning.Grammar.{ids_of, keyword_of, unlabelled_form, labelled_form, vertex_form, edge_form}
 use Rattle.update_reader.specs.declared.keyword.Keyword.{Keyword}
 use Rattle.update_reader.specs.declared.keyword.Keyword.TheVariants as keyword
-use Rattle.program_grammar.specs.meaning.Grammar.{◌>>=◌}
+use Rattle.condition_grammar.specs.meaning.Grammar.{◌>>=◌}
 use Rattle.program_grammar.specs.meaning.Header.{header_said, mode_said, size_of, size_said, size_in_range, in_range, value_of, filter_of}
 use Rattle.program_grammar.specs.meaning.Header.{condition_after_word, is_word}
 use Rattle.program_grammar.specs.meaning.Header.{awaited_line_said as header_said_by}
@@ -32,8 +32,8 @@ use Rattle.program_grammar.specs.declared.header.HeaderReader.TheVariants as hea
 use Rattle.program_grammar.specs.declared.header.HeaderStep.{HeaderStep}
 use Rattle.program_grammar.specs.declared.header.HeaderStep.TheVariants.{More, Ready}
 use Rattle.job.specs.declared.fault.JobRefusal.{JobRefusal}
-use Rattle.job.specs.meaning.Judging.{Stage, heading, streaming, first_stage, Judgement, refused, moved, accepted}
-use Rattle.job.specs.meaning.Judging.{header_judgement, step_judgement, content_judgement, text_judgement, judgement}
+use Rattle.job.specs.meaning.Judging.{Stage, heading, streaming, batching, first_stage, most_batch_updates, Judgement, refused, moved, accepted}
+use Rattle.job.specs.meaning.Judging.{header_judgement, step_judgement, content_judgement, join_judgement, batch_judgement, text_judgement, judgement}
 use Rattle.job.specs.meaning.Judging.{Verdict, verdict_at_end, verdict_after, verdict_from, verdict}
 use Rattle.job.specs.meaning.Following.{IsBounded}
 
@@ -103,6 +103,8 @@ form_short keyword.RemoveEdge (from ∷ to ∷ []) =
     (made_any (λ (ends : ℕ × ℕ). RemoveEdge ends.0 ends.1) AddsShortId (ids_of from to) (λ _. tt))
 form_short keyword.LabelEdge (from ∷ to ∷ label ∷ []) = edge_short (λ x y l. LabelEdge x y l) from to label (λ x y l. tt)
 form_short keyword.Commit [] = tt
+form_short keyword.Batch [] = tt
+form_short keyword.End [] = tt
 form_short word fields = tt
 
 behind_short : (word : Option Keyword) (fields : List (List ℕ)) → FormIsShort (form_after_keyword word fields)
@@ -120,6 +122,8 @@ numbered_short make (Some with_number) short = short with_number.0
 
 by_short : (names : Names) (form : Form) → FormIsShort form → SaidIsShort (content_of_form names form)
 by_short names commit_form short = tt
+by_short names batch_form short = tt
+by_short names end_form short = tt
 by_short names (unlabelled u) short = short
 by_short names (labelled make label) short = numbered_short make (interning names label) short
 by_short names no_form short = tt
@@ -165,9 +169,14 @@ StepIsSmall (Ok (More next, names)) = HeaderIsSmall next
 StepIsSmall (Ok (Ready program, names)) = program.size ≤ most_members
 StepIsSmall (Err refusal) = Unit {0}
 
+-- the updates of a group: what they add, and how many they are
+abbrev GroupIsFine : Group → Type 0
+GroupIsFine us = All AddsShortId us × (length us ≤ most_batch_updates)
+
 abbrev StageIsSmall : Stage → Type 0
 StageIsSmall (heading next names) = HeaderIsSmall next
 StageIsSmall (streaming pattern names g) = pattern.size ≤ most_members
+StageIsSmall (batching pattern names before us) = (pattern.size ≤ most_members) × GroupIsFine us
 
 module _ {A : Type 0} (next : A → Result (HeaderStep × Names) ProgramKind) where
   then_small : (P : A → Type 0) (r : Result A ProgramKind) → IfOk r P → ((a : A) → P a → StepIsSmall (next a)) →
@@ -207,7 +216,7 @@ header_small h line names small =
 abbrev LineIsFine : ℕ → ℕ → Judgement → Type 0
 LineIsFine most n (refused why) = Unit {0}
 LineIsFine most n (moved next) = StageIsSmall next
-LineIsFine most n (accepted us next) = (n ≤ most) × All AddsShortId us × StageIsSmall next
+LineIsFine most n (accepted us next) = (n ≤ most) × GroupIsFine us × StageIsSmall next
 
 module _ (most n : ℕ) where
   header_fine : (step : Result (HeaderStep × Names) ProgramKind) → StepIsSmall step →
@@ -220,22 +229,52 @@ module _ (most n : ℕ) where
     step_fine : (pattern : Pattern) (names : Names) (u : Update) (stepped : Result Graph Refusal) →
         pattern.size ≤ most_members → AddsShortId u → LineIsFine most n (step_judgement n pattern names u stepped)
     step_fine pattern names u (Ok now) small short =
-        (below, All-cons AddsShortId u [] short (All-nil AddsShortId), small)
+        (below, (All-cons AddsShortId u [] short (All-nil AddsShortId), omega arith), small)
     step_fine pattern names u (Err refusal) small short = tt
 
     said_fine : (pattern : Pattern) (names : Names) (g : Graph) (line : LineContent) → pattern.size ≤ most_members →
         SaidIsShort line → LineIsFine most n (content_judgement n pattern names g line)
     said_fine pattern names g nothing small short = small
     said_fine pattern names g commit small short = small
+    said_fine pattern names g batch_begin small short = (small, (All-nil AddsShortId, omega arith))
+    said_fine pattern names g batch_end small short = tt
     said_fine pattern names g (update u later) small short = step_fine pattern later u (step g u) small short
     said_fine pattern names g too_many_labels small short = tt
     said_fine pattern names g bad_line small short = tt
+
+    module _ (pattern : Pattern) (before : Graph) (us : Group) (small : pattern.size ≤ most_members) where
+      join_fine : (names : Names) (u : Update) (stepped : Result Graph Refusal) → GroupIsFine us →
+          length us < most_batch_updates → AddsShortId u →
+          LineIsFine most n (join_judgement n pattern names before us u stepped)
+      join_fine names u (Ok now) group room short = (
+        small,
+        (
+          All-append AddsShortId us (u ∷ []) group.0 (All-cons AddsShortId u [] short (All-nil AddsShortId)),
+          omega (arith, room, length-append us (u ∷ [])),
+        ),
+      )
+      join_fine names u (Err refusal) group room short = tt
+
+      batch_fine : (names : Names) (line : LineContent) → GroupIsFine us → SaidIsShort line →
+          LineIsFine most n (batch_judgement n pattern names before us line)
+      batch_fine names nothing group short = (small, group)
+      batch_fine names commit group short = tt
+      batch_fine names batch_begin group short = tt
+      batch_fine names batch_end group short = (below, group, small)
+      batch_fine names (update u later) group short =
+          cond_both (nat_lt (length us) most_batch_updates) _ _ (LineIsFine most n)
+          (λ room. join_fine later u (step (graph_after_all before us) u) group (ltb-true (length us) most_batch_updates room) short)
+          (λ _. tt)
+      batch_fine names too_many_labels group short = tt
+      batch_fine names bad_line group short = tt
 
     text_fine : (stage : Stage) (text : List ℕ) → StageIsSmall stage → LineIsFine most n (text_judgement n stage text)
     text_fine (heading next names) text small =
         header_fine (header_said next text names) (header_small next text names small)
     text_fine (streaming pattern names g) text small =
         said_fine pattern names g (content_of_line names text) small (said_short names text)
+    text_fine (batching pattern names before us) text small =
+        batch_fine pattern before us small.0 names (content_of_line names text) small.1 (said_short names text)
 
   fine : (stage : Stage) (bytes : List ℕ) → StageIsSmall stage → LineIsFine most n (judgement most n stage bytes)
   fine stage bytes small =
@@ -245,12 +284,18 @@ module _ (most n : ℕ) where
 
 -- ---- a job
 
+-- a group of no more updates than a batch may have
+abbrev Narrow : Group → Type 0
+Narrow us = length us ≤ most_batch_updates
+
 ended_bounds : (most n : ℕ) (stage : Stage) (stop : Option JobRefusal) → StageIsSmall stage →
     IsBounded most (verdict_at_end n stage stop)
 ended_bounds most n (heading next names) stop small =
-    record { small = tt; few = omega arith; short = All-nil (All AddsShortId) }
+    record { small = tt; few = omega arith; narrow = All-nil Narrow; short = All-nil (All AddsShortId) }
 ended_bounds most n (streaming pattern names g) stop small =
-    record { small = small; few = omega arith; short = All-nil (All AddsShortId) }
+    record { small = small; few = omega arith; narrow = All-nil Narrow; short = All-nil (All AddsShortId) }
+ended_bounds most n (batching pattern names before us) stop small =
+    record { small = small.0; few = omega arith; narrow = All-nil Narrow; short = All-nil (All AddsShortId) }
 
 led_bounds : (most n : ℕ) (stage : Stage) (j : Judgement) (rest : Stage → Verdict) → StageIsSmall stage →
     LineIsFine most (suc n) j → ((next : Stage) → StageIsSmall next → IsBounded (most - suc n) (rest next)) →
@@ -258,13 +303,14 @@ led_bounds : (most n : ℕ) (stage : Stage) (j : Judgement) (rest : Stage → Ve
 led_bounds most n stage (refused why) rest small line_is rest_is = ended_bounds (most - n) n stage (Some why) small
 led_bounds most n stage (moved next) rest small line_is rest_is =
     let job = rest_is next line_is in
-    record { small = job.small; few = omega (arith, job.few); short = job.short }
+    record { small = job.small; few = omega (arith, job.few); narrow = job.narrow; short = job.short }
 led_bounds most n stage (accepted us next) rest small line_is rest_is =
     let job = rest_is next line_is.2 in
     record {
       small = job.small;
       few = omega (arith, line_is.0, job.few);
-      short = All-cons (All AddsShortId) us (rest next).groups line_is.1 job.short;
+      narrow = All-cons Narrow us (rest next).groups line_is.1.1 job.narrow;
+      short = All-cons (All AddsShortId) us (rest next).groups line_is.1.0 job.short;
     }
 
 verdict_bounds : (most n : ℕ) (stage : Stage) (lines : List Line) → StageIsSmall stage →

@@ -1,6 +1,6 @@
 -- What a line may lead to from a stage.
-use Rattle.std.proofs.Common.{◌≡◌, ℕ, suc, Bool, true, false, List, [], ◌∷◌, length, cond}
-use Rattle.std.proofs.Common.{Option, None, Some, Result, Ok, Err, refl, sym, ap, subst, ◌∙◌}
+use Rattle.std.proofs.Common.{◌≡◌, ℕ, suc, Bool, true, false, List, [], ◌∷◌, ◌++◌, length, cond}
+use Rattle.std.proofs.Common.{None, Some, Result, Ok, Err, refl, sym, ap, subst, ◌∙◌}
 use Rattle.std.specs.Prelude.{nat_lt}
 use Rattle.graph_types.specs.meaning.Graph.{Graph, empty_graph}
 use Rattle.graph_types.specs.declared.refusal.Refusal.{Refusal}
@@ -9,17 +9,16 @@ use Rattle.job_io.specs.meaning.Lines.{Line, without_cr, most_line_bytes}
 use Rattle.line_fields.specs.meaning.Names.{Names}
 use Rattle.mining_model.specs.meaning.Embeddings.{Pattern}
 use Rattle.mining_model.specs.meaning.History.{Group}
-use Rattle.mining_model.specs.meaning.Step.{step, graph_left_by}
-use Rattle.update_reader.specs.meaning.Grammar.{LineContent, nothing, commit, update, too_many_labels, bad_line, content_of_line}
+use Rattle.mining_model.specs.meaning.Step.{step, graph_left_by, graph_after_all}
+use Rattle.update_reader.specs.meaning.Grammar.{LineContent, nothing, commit, batch_begin, batch_end, update, too_many_labels, bad_line, content_of_line}
 use Rattle.program_grammar.specs.declared.fault.ProgramKind.{ProgramKind}
 use Rattle.program_grammar.specs.declared.header.HeaderReader.{HeaderReader}
 use Rattle.program_grammar.specs.declared.header.HeaderStep.{HeaderStep}
 use Rattle.program_grammar.specs.declared.header.HeaderStep.TheVariants.{More, Ready}
 use Rattle.program_grammar.specs.meaning.Header.{header_said}
-use Rattle.job.specs.declared.fault.JobRefusal.{JobRefusal}
-use Rattle.job.specs.meaning.Judging.{Stage, heading, streaming, Judgement, refused, moved, accepted}
-use Rattle.job.specs.meaning.Judging.{header_judgement, step_judgement, content_judgement, text_judgement, judgement}
-use Rattle.job.specs.meaning.Judging.{Verdict, verdict_after, verdict_from, pattern_at, graph_at_stage}
+use Rattle.job.specs.meaning.Judging.{Stage, heading, streaming, batching, Judgement, refused, moved, accepted, most_batch_updates}
+use Rattle.job.specs.meaning.Judging.{header_judgement, step_judgement, content_judgement, join_judgement, batch_judgement, text_judgement, judgement}
+use Rattle.job.specs.meaning.Judging.{Verdict, verdict_after, verdict_from, pattern_at, graph_of_groups}
 use Rattle.job.specs.meaning.Following.{Accepts, LeadsOn}
 
 Follows : Stage → Judgement → Type 0
@@ -32,7 +31,7 @@ choice P true x y p q = p
 choice P false x y p q = q
 
 -- while a header is read there is no graph, and nothing to mine for
-in_header : (h : HeaderReader) (names : Names) (next : Stage) → graph_at_stage next ≡ empty_graph →
+in_header : (h : HeaderReader) (names : Names) (next : Stage) → graph_of_groups next ≡ empty_graph →
     LeadsOn (heading h names) next
 in_header h names next none = record {
   same_graph = none;
@@ -46,7 +45,7 @@ follows_header n h names (Ok (More later, more)) = in_header h names (heading la
 follows_header n h names (Ok (Ready program, more)) = in_header h names _ refl
 follows_header n h names (Err why) = tt
 
--- a line of the stream that changes no graph
+-- a line of the stream that changes nothing
 stays : (pattern : Pattern) (names later : Names) (g : Graph) →
     LeadsOn (streaming pattern names g) (streaming pattern later g)
 stays pattern names later g = record { same_graph = refl; same_pattern = λ other known. known }
@@ -60,6 +59,8 @@ follows_step n pattern names later g u (Ok now) is = record {
   known = refl;
   same_pattern = refl;
   stepped = sym (ap (graph_left_by g) is);
+  closed = refl;
+  whole = refl;
 }
 follows_step n pattern names later g u (Err why) is = tt
 
@@ -68,13 +69,58 @@ follows_content : (n : ℕ) (pattern : Pattern) (names : Names) (g : Graph) (lin
 unfolding Follows
 follows_content n pattern names g nothing = stays pattern names names g
 follows_content n pattern names g commit = stays pattern names names g
+follows_content n pattern names g batch_begin = record { same_graph = refl; same_pattern = λ other known. known }
+follows_content n pattern names g batch_end = tt
 follows_content n pattern names g (update u later) = follows_step n pattern names later g u (step g u) refl
 follows_content n pattern names g too_many_labels = tt
 follows_content n pattern names g bad_line = tt
 
+-- a line in an open batch that accepts no group
+module _ (n : ℕ) (pattern : Pattern) (names : Names) (before : Graph) (us : Group) where
+  goes_on : (later : Names) (more : Group) →
+      LeadsOn (batching pattern names before us) (batching pattern later before more)
+  goes_on later more = record { same_graph = refl; same_pattern = λ other known. known }
+
+  follows_join : (later : Names) (u : Update) (stepped : Result Graph Refusal) →
+      Follows (batching pattern names before us) (join_judgement n pattern later before us u stepped)
+  unfolding Follows
+  follows_join later u (Ok now) = goes_on later (us ++ u ∷ [])
+  follows_join later u (Err why) = tt
+
+  follows_batch : (line : LineContent) →
+      Follows (batching pattern names before us) (batch_judgement n pattern names before us line)
+  unfolding Follows
+  follows_batch nothing = goes_on names us
+  follows_batch commit = tt
+  follows_batch batch_begin = tt
+  follows_batch batch_end = record {
+    pattern = pattern;
+    known = refl;
+    same_pattern = refl;
+    stepped = refl;
+    closed = refl;
+    whole = refl;
+  }
+  follows_batch (update u later) =
+      choice (Follows (batching pattern names before us)) (nat_lt (length us) most_batch_updates) _ _
+      (follows_join later u (step (graph_after_all before us) u)) tt
+  follows_batch too_many_labels = tt
+  follows_batch bad_line = tt
+
 follows_text : (n : ℕ) (stage : Stage) (text : List ℕ) → Follows stage (text_judgement n stage text)
 follows_text n (heading next names) text = follows_header n next names (header_said next text names)
 follows_text n (streaming pattern names g) text = follows_content n pattern names g (content_of_line names text)
+follows_text n (batching pattern names before us) text = follows_batch n pattern names before us (content_of_line names text)
+
+-- the same of a line without its CR
+pub text-LeadsOn : (n : ℕ) (stage next : Stage) (text : List ℕ) → text_judgement n stage text ≡ moved next → LeadsOn stage next
+unfolding Follows
+text-LeadsOn n stage next text is = subst (Follows stage) is (follows_text n stage text)
+
+pub text-Accepts : (n : ℕ) (stage next : Stage) (text : List ℕ) (us : Group) →
+    text_judgement n stage text ≡ accepted us next → Accepts stage us next
+unfolding Follows
+text-Accepts n stage next text us is = subst (Follows stage) is (follows_text n stage text)
 
 follows : (most n : ℕ) (stage : Stage) (bytes : List ℕ) → Follows stage (judgement most n stage bytes)
 unfolding Follows
@@ -116,6 +162,7 @@ verdict-pattern most n stage (line ∷ lines) pattern known =
     (λ next still. verdict-pattern most (suc n) next lines pattern still)
 
 -- before it is known there is no graph
-pub no_graph_yet : (stage : Stage) → pattern_at stage ≡ None → graph_at_stage stage ≡ empty_graph
+pub no_graph_yet : (stage : Stage) → pattern_at stage ≡ None → graph_of_groups stage ≡ empty_graph
 no_graph_yet (heading next names) none = refl
 no_graph_yet (streaming pattern names g) none = absurd (let e : Some pattern ≡ None = none in cc)
+no_graph_yet (batching pattern names before us) none = absurd (let e : Some pattern ≡ None = none in cc)

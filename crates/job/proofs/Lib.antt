@@ -1,3 +1,4 @@
 pub mod Bounds
 pub mod Following
 pub mod Limits
+pub mod NextStages

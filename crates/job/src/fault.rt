@@ -12,6 +12,10 @@ pub enum JobRefusal {
     Update { line: u64, why: Refusal },
     /// This line brings a label for which no number is left.
     Labels(u64),
+    /// The update of this line is one more than a batch may have.
+    Batch(u64),
+    /// The lines end in a batch that is open, and this is how many there were.
+    OpenBatch(u64),
     /// This line has more bytes than a line may have.
     LineBytes(u64),
     /// This line is one more than are allowed.

@@ -2,9 +2,13 @@ ghost use Rattle.std.specs.Prelude.{◌≡◌, IfOk};
 ghost use Rattle.line_fields.specs.meaning.Names.{first_names};
 ghost use Rattle.program_grammar.specs.meaning.Header.{awaited_word};
 ghost use Rattle.job.specs.calls.HeaderLine.{TakesHeaderLine};
+ghost use Rattle.job.specs.calls.Taking.{TakesHeader};
 
+use crate::fault::{JobFault, JobRefusal};
+use crate::judging::Job;
+use crate::stream::Stream;
 use filter_polarity::Program;
-use graph_types::NoMemory;
+use graph_types::{NoMemory, Snapshot};
 use line_fields::Names;
 use program_grammar::{HeaderReader, HeaderStep, ProgramFault, Word};
 use std::alloc::Global;
@@ -34,7 +38,7 @@ impl Model for Header {
 
 /// What a line of the header leads to.
 #[derive(Drop)]
-pub enum HeaderTurn {
+pub(crate) enum HeaderTurn {
     More(Header),
     Ready(Names, Program),
 }
@@ -57,8 +61,27 @@ impl Header {
         self.reader.missing()
     }
 
-    /// Takes line `number`, whose CR was dropped.
-    pub fn take(self, alloc: Global, number: u64, line: &[u8]) -> Result<HeaderTurn, ProgramFault>
+    /// Takes line `number`, without its LF and CR, in time linear in it: the job goes on in its header, or with
+    /// its stream.
+    pub fn take(self, alloc: Global, number: u64, text: &[u8]) -> Result<Job, JobFault>
+        ensures { TakesHeader number self text.now result }
+    {
+        match self.read(alloc, number, text) {
+            Ok(HeaderTurn::More(next)) => Ok(Job::Heading(next)),
+            Ok(HeaderTurn::Ready(names, program)) => Ok(Job::Streaming(Stream {
+                program,
+                names,
+                graph: Snapshot::new(alloc),
+                batch: None,
+            })),
+            Err(ProgramFault::Refused { line, kind }) => {
+                Err(JobFault::Refused(JobRefusal::Program { line, kind }))
+            }
+            Err(ProgramFault::NoMemory) => Err(JobFault::NoMemory),
+        }
+    }
+
+    fn read(self, alloc: Global, number: u64, line: &[u8]) -> Result<HeaderTurn, ProgramFault>
         ensures { TakesHeaderLine number self line.now result }
     {
         let Header { reader, mut names } = self;

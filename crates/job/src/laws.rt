@@ -5,9 +5,9 @@ ghost use Rattle.graph_types.specs.meaning.Graph.{empty_graph};
 ghost use Rattle.job_io.specs.meaning.Lines.{Line};
 ghost use Rattle.mining_model.specs.meaning.History.{Group};
 ghost use Rattle.job.specs.meaning.Following.{Accepts, IsBounded, LeadsOn};
-ghost use Rattle.job.specs.meaning.Judging.{Stage, accepted, graph_at_stage, judgement, moved, verdict};
+ghost use Rattle.job.specs.meaning.Judging.{Stage, accepted, judgement, moved, verdict};
 
-/// Groups that are accepted change the graph, one after another, and nothing else does.
+/// Groups that are accepted lead from the graph of a timestamp to that of the next one, and nothing else does.
 pub fn groups_alone_change_the_graph()
     ensures moved { (most n : ℕ) (stage next : Stage) (bytes : List ℕ) →
         judgement most n stage bytes ≡ moved next → LeadsOn stage next }

@@ -1,7 +1,7 @@
 ghost use Rattle.std.specs.Prelude.{◌≡◌};
 ghost use Rattle.update_reader.specs.meaning.Grammar.{keyword_of};
 
-/// The first word of a line that says an update or `commit`.
+/// The first word of a line that says an update, or where a window or a batch begins or ends.
 #[derive(Clone, Copy, Debug, PartialEq, Eq)]
 pub enum Keyword {
     AddVertex,
@@ -11,6 +11,8 @@ pub enum Keyword {
     RemoveEdge,
     LabelEdge,
     Commit,
+    Batch,
+    End,
 }
 
 /// The keyword that the word is.
@@ -31,6 +33,10 @@ pub fn read_keyword(word: &[u8]) -> Option<Keyword>
         Some(Keyword::LabelEdge)
     } else if word == b"commit".as_slice() {
         Some(Keyword::Commit)
+    } else if word == b"batch".as_slice() {
+        Some(Keyword::Batch)
+    } else if word == b"end".as_slice() {
+        Some(Keyword::End)
     } else {
         None
     }

@@ -23,6 +23,10 @@ pub enum Item {
     Update(Update),
     /// The updates so far are to be mined together.
     Commit,
+    /// The updates from here on share a timestamp,
+    BatchBegin,
+    /// until here.
+    BatchEnd,
 }
 
 /// Why a line says nothing that counts.
@@ -77,12 +81,14 @@ fn word_at(line: &[u8], i: usize) -> &[u8]
     word(line, i).unwrap()
 }
 
-// `commit`
+// `commit`, `batch`, `end`
 fn read_alone(keyword: Keyword) -> Result<Item, UpdateFault>
     ensures { (names : List (List ℕ)) → ReadsForm names (form_with keyword []) result names }
 {
     match keyword {
         Keyword::Commit => Ok(Item::Commit),
+        Keyword::Batch => Ok(Item::BatchBegin),
+        Keyword::End => Ok(Item::BatchEnd),
         _ => Err(UpdateFault::BadLine),
     }
 }

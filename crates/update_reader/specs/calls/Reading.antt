@@ -6,7 +6,7 @@ use Rattle.update_reader.specs.declared.Item.TheVariants as item
 use Rattle.update_reader.specs.declared.UpdateFault.{UpdateFault}
 use Rattle.update_reader.specs.declared.UpdateFault.TheVariants as fault
 use Rattle.line_fields.specs.meaning.Names.{Names}
-use Rattle.update_reader.specs.meaning.Grammar.{LineContent, nothing, commit, update, too_many_labels, bad_line, Form, labelled_form, vertex_form, edge_form, content_of_form, content_of_line}
+use Rattle.update_reader.specs.meaning.Grammar.{LineContent, nothing, commit, batch_begin, batch_end, update, too_many_labels, bad_line, Form, labelled_form, vertex_form, edge_form, content_of_form, content_of_line}
 
 -- it is an update that brings a new name
 abbrev pub BringsName : Names → LineContent → Type 0
@@ -17,6 +17,8 @@ BringsName old other = ⊥
 abbrev pub AnswersContent : Names → LineContent → Result Item UpdateFault → Names → Type 0
 AnswersContent old what (Ok item.Nothing) new = (new ≡ old) × (what ≡ nothing)
 AnswersContent old what (Ok item.Commit) new = (new ≡ old) × (what ≡ commit)
+AnswersContent old what (Ok item.BatchBegin) new = (new ≡ old) × (what ≡ batch_begin)
+AnswersContent old what (Ok item.BatchEnd) new = (new ≡ old) × (what ≡ batch_end)
 AnswersContent old what (Ok (item.Update u)) new = what ≡ update u new
 AnswersContent old what (Err fault.BadLine) new = (new ≡ old) × (what ≡ bad_line)
 AnswersContent old what (Err fault.TooManyLabels) new = (new ≡ old) × (what ≡ too_many_labels)

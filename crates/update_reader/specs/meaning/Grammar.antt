@@ -13,7 +13,11 @@ use Rattle.line_fields.specs.meaning.Names.{Names, no_name, interning}
 pub data LineContent : Type 0 where
   -- it is blank or a comment
   nothing : LineContent
+  -- the window ends
   commit : LineContent
+  -- a batch begins, and ends
+  batch_begin : LineContent
+  batch_end : LineContent
   -- an update, and the names then
   update : Update → Names → LineContent
   -- an update whose label is new, and there is no room for its name
@@ -23,6 +27,8 @@ pub data LineContent : Type 0 where
 -- the form of a line's words: an update waits for the number of its label
 pub data Form : Type 0 where
   commit_form : Form
+  batch_form : Form
+  end_form : Form
   unlabelled : Update → Form
   labelled : (ℕ → Update) → List ℕ → Form
   no_form : Form
@@ -56,6 +62,8 @@ keyword_of word =
     else if bytes_eq word (codes "-e") then Some keyword.RemoveEdge
     else if bytes_eq word (codes "~e") then Some keyword.LabelEdge
     else if bytes_eq word (codes "commit") then Some keyword.Commit
+    else if bytes_eq word (codes "batch") then Some keyword.Batch
+    else if bytes_eq word (codes "end") then Some keyword.End
     else None
 
 -- the form of a line by its keyword and the words after that: what is added without a label gets `_`
@@ -69,6 +77,8 @@ form_with keyword.AddEdge (from ∷ to ∷ label ∷ []) = edge_form (λ x y l. 
 form_with keyword.RemoveEdge (from ∷ to ∷ []) = unlabelled_form (option_map (λ ends. RemoveEdge ends.0 ends.1) (ids_of from to))
 form_with keyword.LabelEdge (from ∷ to ∷ label ∷ []) = edge_form (λ x y l. LabelEdge x y l) from to label
 form_with keyword.Commit [] = commit_form
+form_with keyword.Batch [] = batch_form
+form_with keyword.End [] = end_form
 form_with word fields = no_form
 
 abbrev pub form_after_keyword : Option Keyword → List (List ℕ) → Form
@@ -86,6 +96,8 @@ content_of_labelled make None = too_many_labels
 
 abbrev pub content_of_form : Names → Form → LineContent
 content_of_form names commit_form = commit
+content_of_form names batch_form = batch_begin
+content_of_form names end_form = batch_end
 content_of_form names (unlabelled u) = update u names
 content_of_form names (labelled make label) = content_of_labelled make (interning names label)
 content_of_form names no_form = bad_line
