@@ -1,11 +1,11 @@
 use crate::case::CaseFault;
 use crate::text::read_text;
-use command_words::{Verb, WordsFault, read_words};
+use command_words::{Command, Options, Verb, WordsFault, read_words};
 use std::alloc::Global;
 use std::fmt::Write;
 use std::str;
 
-/// `command TEXT`: a space parts two words, so that a space at an end has an empty word beside it.
+/// `command TEXT`: the command with each option that it has, as it is named or by default. A space parts two words, so that a space at an end has an empty word beside it.
 pub fn command(alloc: Global, text: &str, answer: &mut String) -> Result<(), CaseFault> {
     let bytes = read_text(alloc, text)?;
     let text = str::from_utf8(bytes.as_slice())
@@ -20,13 +20,35 @@ pub fn command(alloc: Global, text: &str, answer: &mut String) -> Result<(), Cas
         }
         Err(WordsFault::NoMemory) => return Err(CaseFault::NoMemory),
     };
-    answer.push_str(match command.verb {
-        Verb::Mine => "mine",
-        Verb::Fold => "fold",
-    })?;
-    if let Some(at) = command.options.at {
-        write!(answer, " at {at}")?;
+    show_command(&command, answer)
+}
+
+/// The command, with each option that it has.
+fn show_command(command: &Command, answer: &mut String) -> Result<(), CaseFault> {
+    let options = &command.options;
+    match command.verb {
+        Verb::Mine => {
+            answer.push_str("mine")?;
+            show_mining(options, answer)?;
+            write!(answer, " records {}", options.records)?;
+        }
+        Verb::Fold => {
+            answer.push_str("fold")?;
+            if let Some(at) = options.at {
+                write!(answer, " at {at}")?;
+            }
+        }
+        Verb::Migrate => answer.push_str("migrate")?,
     }
+    Ok(())
+}
+
+fn show_mining(options: &Options, answer: &mut String) -> Result<(), CaseFault> {
+    write!(answer, " workers {}", options.workers)?;
+    write!(answer, " shards {}", options.shards)?;
+    write!(answer, " window {}", options.window)?;
+    write!(answer, " max-records {}", options.max_records)?;
+    write!(answer, " max-lines {}", options.max_lines)?;
     Ok(())
 }
 

@@ -102,6 +102,8 @@ fn read_with(
     match read_line(alloc, line.as_slice(), names) {
         Ok(Item::Nothing) => answer.push_str("nothing")?,
         Ok(Item::Commit) => answer.push_str("commit")?,
+        Ok(Item::BatchBegin) => answer.push_str("batch")?,
+        Ok(Item::BatchEnd) => answer.push_str("end")?,
         Ok(Item::Update(update)) => show_update(&update, answer)?,
         Err(UpdateFault::BadLine) => answer.push_str("BadLine")?,
         Err(UpdateFault::TooManyLabels) => answer.push_str("Labels")?,

@@ -1,2 +1,4 @@
 pub mod Order
 pub mod Splitting
+pub mod WithinRange
+pub mod Spelt

@@ -49,11 +49,10 @@ options_said-out_of_order verb words = by_settings (settings_of words)
     by_settings None out = refl
     by_settings (Some settings) out = ap (λ b. if b then Some (options_of settings) else None) out
 
-pub options_said-in_order : (verb : Verb) (words : List (List ℕ)) (options : Options) → are_in_order verb words ≡ true → ((settings : List Setting) → settings_of words ≡ Some settings → options ≡ options_of settings) → options_of_words verb words ≡ Some options
-options_said-in_order verb words options = by_settings (settings_of words)
-  where
-    by_settings : (o : Option (List Setting)) → option_map_or (is_in_order verb) o false ≡ true → ((settings : List Setting) → o ≡ Some settings → options ≡ options_of settings) →
-        option_and_then (λ settings. if is_in_order verb settings then Some (options_of settings) else None) o ≡ Some options
-    by_settings None order are = absurd (cc)
-    by_settings (Some settings) order are =
-        ap (λ b. if b then Some (options_of settings) else None) order ∙ ap Some (sym (are settings refl))
+pub options_said-known : (verb : Verb) (words : List (List ℕ)) (settings : List Setting) (options : Options) →
+    settings_of words ≡ Some settings → is_in_order verb settings ≡ true → options ≡ options_of settings →
+    options_of_words verb words ≡ Some options
+options_said-known verb words settings options are order same =
+    ap (option_and_then (λ settings. if is_in_order verb settings then Some (options_of settings) else None)) are
+    ∙ ap (λ b. if b then Some (options_of settings) else None) order
+    ∙ ap Some (sym same)

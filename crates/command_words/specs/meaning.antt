@@ -1,2 +1,4 @@
 -- What is meant.
 pub mod Words
+pub mod Ranges
+pub mod Spelling

@@ -7,13 +7,27 @@ pub enum Verb {
     Mine,
     /// Reads records and writes the pieces at a timestamp.
     Fold,
+    /// Reads records of either format and writes them in the later one.
+    Migrate,
 }
 
 /// The options of all commands. One that isn't named, or that the command hasn't, has its default.
 #[derive(Clone, Copy, Debug, PartialEq, Eq)]
 pub struct Options {
+    /// `--workers`, 1 to 16: the threads that mine. By default 2.
+    pub workers: u32,
+    /// `--shards`, 1 to 64: the parts in which the graph is kept. By default 8.
+    pub shards: u32,
+    /// `--window`, 1 to 4,096: the timestamps that are mined together. By default 256.
+    pub window: u32,
+    /// `--max-records`, 1 to 10,000,000: the most records of a timestamp. By default 100,000.
+    pub max_records: u32,
+    /// `--max-lines`, 1 to 4,000,000,000: the most lines of a job. By default 4,000,000,000.
+    pub max_lines: u32,
+    /// `--records`, 1 to 2: the format of the records. By default 2.
+    pub records: u32,
     /// `--at`, 0 to 4,000,000,000: the timestamp to stop at. By default it is the last one.
-    pub at: Option<u64>,
+    pub at: Option<u32>,
 }
 
 /// A command with its options.

@@ -1,6 +1,9 @@
-ghost use Rattle.std.specs.Prelude.{◌≡◌, List, Some, false, map, string_bytes};
+ghost use Rattle.std.specs.Prelude.{◌≡◌, ◌<◌, ◌^◌, List, Some, IfSome, false, map, string_bytes};
+ghost use Rattle.std.specs.List.{list_any};
 ghost use Rattle.std.specs.Option.{option_map_or};
-ghost use Rattle.command_words.specs.meaning.Words.{setting_fits as fits_before, has_option as has_option, is_in_order, is_number_within, number_named as number_given, options_of_words, settings_of, Setting as SettingValue, setting_of as setting_of, takes_value as takes_value};
+ghost use Rattle.std.specs.Str.{bytes_eq};
+ghost use Rattle.command_words.specs.meaning.Ranges.{AreWithin};
+ghost use Rattle.command_words.specs.meaning.Words.{setting_fits as fits_before, has_option as has_option, is_in_order, is_number_within, mining_options, number_named as number_given, number_or as number_given_or, options_of_words, range_of as range_given, settings_of, Setting as SettingValue, setting_of as setting_of, takes_value as takes_value};
 
 use crate::command::{Options, Verb};
 use crate::settings::{Setting, split_setting, value_named};
@@ -9,18 +12,32 @@ use line_fields::read_number;
 /// The most digits of a number.
 const DIGITS: usize = 10;
 
-/// The largest timestamp that `--at` takes.
-const MOST_AT: u64 = 4_000_000_000;
+/// The largest number that an option may have.
+const MOST_NUMBER: u64 = 4_294_967_295;
 
 /// The options that the words after a command give.
 pub fn read_options(verb: Verb, words: &[String]) -> Option<Options>
-    ensures { result ≡ options_of_words verb (map string_bytes words.now) }
+    ensures read { result ≡ options_of_words verb (map string_bytes words.now) }
+    ensures within { IfSome result (λ options. AreWithin options) }
 {
     if !are_in_order(verb, words) {
         return None;
     }
+    let workers = number_or(b"workers", 2, words);
+    let shards = number_or(b"shards", 8, words);
+    let window = number_or(b"window", 256, words);
+    let max_records = number_or(b"max-records", 100_000, words);
+    let max_lines = number_or(b"max-lines", 4_000_000_000, words);
+    let records = number_or(b"records", 2, words);
+    let at = number_named(b"at", words);
     Some(Options {
-        at: number_named(b"at", words),
+        workers,
+        shards,
+        window,
+        max_records,
+        max_lines,
+        records,
+        at,
     })
 }
 
@@ -56,19 +73,53 @@ fn has(verb: Verb, name: &[u8]) -> bool
     ensures { result ≡ has_option verb name.now }
 {
     match verb {
-        Verb::Mine => false,
+        Verb::Mine => name == b"records".as_slice() || has_to_mine(name),
         Verb::Fold => name == b"at".as_slice(),
+        Verb::Migrate => false,
     }
+}
+
+/// Whether the commands that mine a job in windows have an option of this name.
+fn has_to_mine(name: &[u8]) -> bool
+    ensures { result ≡ list_any (bytes_eq name.now) mining_options }
+{
+    name == b"workers".as_slice()
+        || name == b"shards".as_slice()
+        || name == b"window".as_slice()
+        || name == b"max-records".as_slice()
+        || name == b"max-lines".as_slice()
 }
 
 /// Whether the option of this name takes this value.
 fn takes(name: &[u8], value: &[u8]) -> bool
     ensures { result ≡ takes_value name.now value.now }
 {
-    if name == b"at".as_slice() {
-        is_within(value, 0, MOST_AT)
+    let Some((least, most)) = range_of(name) else {
+        return false;
+    };
+    is_within(value, least, most)
+}
+
+/// The least and the most that the option of this name takes.
+fn range_of(name: &[u8]) -> Option<(u64, u64)>
+    ensures { result ≡ range_given name.now }
+{
+    if name == b"workers".as_slice() {
+        Some((1, 16))
+    } else if name == b"shards".as_slice() {
+        Some((1, 64))
+    } else if name == b"window".as_slice() {
+        Some((1, 4_096))
+    } else if name == b"max-records".as_slice() {
+        Some((1, 10_000_000))
+    } else if name == b"max-lines".as_slice() {
+        Some((1, 4_000_000_000))
+    } else if name == b"records".as_slice() {
+        Some((1, 2))
+    } else if name == b"at".as_slice() {
+        Some((0, 4_000_000_000))
     } else {
-        false
+        None
     }
 }
 
@@ -81,10 +132,22 @@ fn is_within(value: &[u8], least: u64, most: u64) -> bool
     }
 }
 
-/// The number that the words give to a name, where they are settings.
-fn number_named(name: &[u8], words: &[String]) -> Option<u64>
+/// The number that the words give to a name, where they are settings and it fits 32 bits.
+fn number_named(name: &[u8], words: &[String]) -> Option<u32>
     ensures { (settings : List SettingValue) → settings_of (map string_bytes words.now) ≡ Some settings →
-        result ≡ number_given name.now settings }
+        IfSome (number_given name.now settings) (λ n. n < 2 ^ 32) → result ≡ number_given name.now settings }
 {
-    read_number(value_named(name, words)?, DIGITS)
+    let number = read_number(value_named(name, words)?, DIGITS)?;
+    if number > MOST_NUMBER {
+        return None;
+    }
+    Some(number as u32)
+}
+
+/// That number, or else the one that stands where the name doesn't.
+fn number_or(name: &[u8], usual: u32, words: &[String]) -> u32
+    ensures { (settings : List SettingValue) → settings_of (map string_bytes words.now) ≡ Some settings →
+        IfSome (number_given name.now settings) (λ n. n < 2 ^ 32) → result ≡ number_given_or usual name.now settings }
+{
+    number_named(name, words).unwrap_or(usual)
 }

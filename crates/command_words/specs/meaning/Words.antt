@@ -1,11 +1,11 @@
 -- The words of the command line: a command, and the values that it gives to options.
-use Rattle.std.specs.Prelude.{ℕ, ◌+◌, Bool, true, false, ◌&&◌, List, [], ◌∷◌, take, drop, eqb, nat_le, codes, Option, None, Some, is_none, if◌then◌else◌}
-use Rattle.std.specs.List.{position}
+use Rattle.std.specs.Prelude.{ℕ, ◌+◌, Bool, true, false, ◌&&◌, List, [], ◌∷◌, take, drop, eqb, nat_le, codes, Option, None, Some, is_none, unwrap_or, if◌then◌else◌}
+use Rattle.std.specs.List.{position, list_any}
 use Rattle.std.specs.Option.{option_map, option_map_or, option_and_then}
 use Rattle.std.specs.Str.{bytes_eq}
 use Rattle.line_fields.specs.meaning.Fields.{number_of, is_dash}
 use Rattle.command_words.specs.declared.command.Verb.{Verb}
-use Rattle.command_words.specs.declared.command.Verb.TheVariants.{Mine, Fold}
+use Rattle.command_words.specs.declared.command.Verb.TheVariants.{Mine, Fold, Migrate}
 use Rattle.command_words.specs.declared.command.Options.{Options}
 use Rattle.command_words.specs.declared.command.Command.{Command}
 
@@ -16,12 +16,63 @@ abbrev pub verb_of : List ℕ → Option Verb
 verb_of word =
     if bytes_eq word (codes "mine") then Some Mine
     else if bytes_eq word (codes "fold") then Some Fold
+    else if bytes_eq word (codes "migrate") then Some Migrate
     else None
 
--- the command has an option of this name
+-- the options of commands that mine a job in windows
+abbrev pub mining_options : List (List ℕ)
+mining_options = codes "workers" ∷ codes "shards" ∷ codes "window" ∷ codes "max-records" ∷ codes "max-lines" ∷ []
+
+-- the options of a command
+abbrev pub option_names : Verb → List (List ℕ)
+option_names Mine = codes "records" ∷ mining_options
+option_names Fold = codes "at" ∷ []
+option_names Migrate = []
+
 abbrev pub has_option : Verb → List ℕ → Bool
-has_option Mine name = false
-has_option Fold name = bytes_eq name (codes "at")
+has_option verb name = list_any (bytes_eq name) (option_names verb)
+
+-- an option: its name, and the least and the most that it takes
+pub record NumberOption : Type 0 where
+  pub name : List ℕ
+  pub least : ℕ
+  pub most : ℕ
+
+abbrev pub from_to : List ℕ → ℕ → ℕ → NumberOption
+from_to name least most = record { name = name; least = least; most = most }
+
+-- all options
+abbrev pub number_options : List NumberOption
+number_options =
+    from_to (codes "workers") 1 16
+    ∷ from_to (codes "shards") 1 64
+    ∷ from_to (codes "window") 1 4096
+    ∷ from_to (codes "max-records") 1 10000000
+    ∷ from_to (codes "max-lines") 1 4000000000
+    ∷ from_to (codes "records") 1 2
+    ∷ from_to (codes "at") 0 4000000000
+    ∷ []
+
+-- what stands where they are not named; a fold goes to the end then
+abbrev pub default_options : Options
+default_options = record {
+  workers = 2;
+  shards = 8;
+  window = 256;
+  max_records = 100000;
+  max_lines = 4000000000;
+  records = 2;
+  at = None;
+}
+
+-- the least and the most that the option of this name takes
+abbrev pub range_in : List NumberOption → List ℕ → Option (ℕ × ℕ)
+range_in [] name = None
+range_in (option ∷ options) name =
+    if bytes_eq name option.name then Some (option.least, option.most) else range_in options name
+
+abbrev pub range_of : List ℕ → Option (ℕ × ℕ)
+range_of name = range_in number_options name
 
 -- 1 to 10 digits with a value from `least` to `most`
 abbrev pub is_number_within : ℕ → ℕ → List ℕ → Bool
@@ -29,9 +80,7 @@ is_number_within least most value = option_map_or (λ n. nat_le least n && nat_l
 
 -- the option of this name takes this value
 abbrev pub takes_value : List ℕ → List ℕ → Bool
-takes_value name value =
-    if bytes_eq name (codes "at") then is_number_within 0 4000000000 value
-    else false
+takes_value name value = option_map_or (λ range. is_number_within range.0 range.1 value) (range_of name) false
 
 -- ---- how options stand on the command line
 
@@ -91,9 +140,20 @@ is_in_order verb (s ∷ settings) = setting_fits verb s settings && is_in_order 
 abbrev pub number_named : List ℕ → List Setting → Option ℕ
 number_named name settings = option_and_then (number_of 10) (value_named name settings)
 
+abbrev pub number_or : ℕ → List ℕ → List Setting → ℕ
+number_or usual name settings = unwrap_or (number_named name settings) usual
+
 -- each option as it is named, or else its default
 abbrev pub options_of : List Setting → Options
-options_of settings = record { at = number_named (codes "at") settings }
+options_of settings = record {
+  workers = number_or default_options.workers (codes "workers") settings;
+  shards = number_or default_options.shards (codes "shards") settings;
+  window = number_or default_options.window (codes "window") settings;
+  max_records = number_or default_options.max_records (codes "max-records") settings;
+  max_lines = number_or default_options.max_lines (codes "max-lines") settings;
+  records = number_or default_options.records (codes "records") settings;
+  at = number_named (codes "at") settings;
+}
 
 -- the options that the words after a command give
 abbrev pub options_of_words : Verb → List (List ℕ) → Option Options

@@ -1,10 +1,47 @@
-use Rattle.std.proofs.Common.{map, string_bytes, sym}
-use Rattle.command_words.proofs.Order.{options_said-out_of_order, options_said-in_order}
+use Rattle.std.proofs.Common.{◌≡◌, ℕ, ◌≤◌, codes, List, Some, map, string_bytes, refl, sym, subst, arith}
+use Rattle.command_words.specs.declared.command.Options.{Options}
+use Rattle.command_words.specs.meaning.Ranges.{AreWithin}
+use Rattle.command_words.specs.meaning.Words.{options_of, range_of}
+use Rattle.command_words.proofs.Order.{options_said-out_of_order, options_said-known}
+use Rattle.command_words.proofs.WithinRange.{known_order, named-short, options-within, some_settings}
 use Rattle.command_words.proofs.options.read_options.Goals as goal
 
 pub returns-then-not-are_in_order : goal.returns-then-not-are_in_order
-returns-then-not-are_in_order c = sym (options_said-out_of_order c.args.verb (map string_bytes c.args.words.now) (sym c.if-not-are_in_order.ensures))
+returns-then-not-are_in_order c = record {
+  read = sym (options_said-out_of_order c.args.verb (map string_bytes c.args.words.now) (sym c.if-not-are_in_order.ensures));
+  within = tt;
+}
 
 pub returns : goal.returns
-returns c = sym (options_said-in_order c.args.verb (map string_bytes c.args.words.now) _ (sym c.if-not-are_in_order.ensures)
-    (λ settings are i. record { at = c.number_named.ensures settings are i }))
+returns c =
+    let verb = c.args.verb in
+    let words = map string_bytes c.args.words.now in
+    let order = sym c.if-not-are_in_order.ensures in
+    let known = some_settings verb words order in
+    let settings = known.0 in
+    let are = known.1 in
+    let ordered = known_order verb words settings order are in
+    let short = λ (name : List ℕ) (least most : ℕ) (range : range_of name ≡ Some (least, most)) (few : most ≤ 4000000000).
+    named-short verb name least most range few settings ordered in
+    let options : Options = record {
+      workers = c.number_or-workers.result;
+      shards = c.number_or-shards.result;
+      window = c.number_or-window.result;
+      max_records = c.number_or-max_records.result;
+      max_lines = c.number_or-max_lines.result;
+      records = c.number_or-records.result;
+      at = c.number_named-at.result;
+    } in
+    let same : options ≡ options_of settings = λ i. record {
+      workers = c.number_or-workers.ensures settings are (short (codes "workers") 1 16 refl (omega arith)) i;
+      shards = c.number_or-shards.ensures settings are (short (codes "shards") 1 64 refl (omega arith)) i;
+      window = c.number_or-window.ensures settings are (short (codes "window") 1 4096 refl (omega arith)) i;
+      max_records = c.number_or-max_records.ensures settings are (short (codes "max-records") 1 10000000 refl (omega arith)) i;
+      max_lines = c.number_or-max_lines.ensures settings are (short (codes "max-lines") 1 4000000000 refl (omega arith)) i;
+      records = c.number_or-records.ensures settings are (short (codes "records") 1 2 refl (omega arith)) i;
+      at = c.number_named-at.ensures settings are (short (codes "at") 0 4000000000 refl (omega arith)) i;
+    } in
+    record {
+      read = sym (options_said-known verb words settings options are ordered same);
+      within = subst AreWithin (sym same) (options-within verb settings ordered);
+    }
