@@ -1,13 +1,13 @@
 -- Which command the first word names.
-use Rattle.std.proofs.Common.{◌≡◌, Bool, true, false, ℕ, List, [], ◌∷◌, codes, Option, None, Some, if◌then◌else◌, refl, sym, ap, ◌∙◌}
+use Rattle.std.proofs.Common.{◌≡◌, Bool, true, false, ◌||◌, ℕ, List, [], ◌∷◌, codes, Option, None, Some, if◌then◌else◌, refl, sym, ap, ◌∙◌}
 use Rattle.std.specs.Option.{option_and_then, option_map}
 use Rattle.std.specs.Str.{bytes_eq}
 use Rattle.command_words.specs.declared.command.Verb.{Verb}
-use Rattle.command_words.specs.declared.command.Verb.TheVariants.{Mine, Fold}
+use Rattle.command_words.specs.declared.command.Verb.TheVariants.{Mine, Fold, Migrate}
 use Rattle.command_words.specs.declared.command.Options.{Options}
 use Rattle.command_words.specs.declared.command.Command.{Command}
 use Rattle.command_words.specs.meaning.Words.{command_of, options_of_words, verb_of}
-use Rattle.tesseract.specs.meaning.Commands.{is_still, mine_command}
+use Rattle.tesseract.specs.meaning.Commands.{fold_command, is_still, migrate_command, mine_command}
 
 -- a command with options that were given
 of_verb : (verb : Verb) (options : Option Options) (c : Command) →
@@ -29,22 +29,50 @@ first_word : (word : List ℕ) (words : List (List ℕ)) (c : Command) → comma
     verb_of word ≡ Some c.verb
 first_word word words c given = named (verb_of word) (λ verb. options_of_words verb words) c given
 
-is_fold : (m f : Bool) → (if m then Some Mine else if f then Some Fold else None) ≡ Some Fold → f ≡ true
-is_fold true f named = absurd (let e : Some Mine ≡ Some Fold = named in cc)
-is_fold false true named = refl
-is_fold false false named = absurd (let e : None ≡ Some Fold = named in cc)
+is_fold : (m f g : Bool) → (if m then Some Mine else if f then Some Fold else if g then Some Migrate else None) ≡ Some Fold →
+    f || g ≡ true
+is_fold true f g named = absurd (let e : Some Mine ≡ Some Fold = named in cc)
+is_fold false true g named = refl
+is_fold false false true named = refl
+is_fold false false false named = absurd (let e : None ≡ Some Fold = named in cc)
+
+is_migrate : (m f g : Bool) → (if m then Some Mine else if f then Some Fold else if g then Some Migrate else None) ≡ Some Migrate →
+    f || g ≡ true
+is_migrate true f g named = absurd (let e : Some Mine ≡ Some Migrate = named in cc)
+is_migrate false true g named = refl
+is_migrate false false true named = refl
+is_migrate false false false named = absurd (let e : None ≡ Some Migrate = named in cc)
 
 -- to fold takes one thread alone
 pub fold-is_still : (words : List (List ℕ)) (c : Command) → command_of words ≡ Some c → c.verb ≡ Fold →
     is_still words ≡ true
 fold-is_still [] c given fold = absurd (let e : None ≡ Some c = given in cc)
 fold-is_still (word ∷ words) c given fold =
-    is_fold (bytes_eq word (codes "mine")) (bytes_eq word (codes "fold")) (first_word word words c given ∙ ap Some fold)
+    is_fold (bytes_eq word (codes "mine")) (bytes_eq word (codes "fold")) (bytes_eq word (codes "migrate"))
+    (first_word word words c given ∙ ap Some fold)
+
+-- and so does to migrate
+pub migrate-is_still : (words : List (List ℕ)) (c : Command) → command_of words ≡ Some c → c.verb ≡ Migrate →
+    is_still words ≡ true
+migrate-is_still [] c given migrate = absurd (let e : None ≡ Some c = given in cc)
+migrate-is_still (word ∷ words) c given migrate =
+    is_migrate (bytes_eq word (codes "mine")) (bytes_eq word (codes "fold")) (bytes_eq word (codes "migrate"))
+    (first_word word words c given ∙ ap Some migrate)
+
+-- words that give two commands give them with the same verb and options
+pub same_command : (words : List (List ℕ)) (c d : Command) → command_of words ≡ Some c → command_of words ≡ Some d → c ≡ d
+same_command words c d first second = let e : Some c ≡ Some d = sym first ∙ second in cc
 
 -- to fold is not to mine
-pub fold-is_not_mine : (words : List (List ℕ)) (c : Command) → command_of words ≡ Some c → c.verb ≡ Fold →
-    command_of words ≡ Some mine_command → ⊥
-fold-is_not_mine words c given fold mine =
-    let e : Some c ≡ Some mine_command = sym given ∙ mine in
-    let same : ◌≡◌ {A = Command} c mine_command = cc in
+pub fold-is_not_mine : (words : List (List ℕ)) (c : Command) (options : Options) → command_of words ≡ Some c →
+    c.verb ≡ Fold → command_of words ≡ Some (mine_command options) → ⊥
+fold-is_not_mine words c options given fold mine =
+    let same = same_command words c (mine_command options) given mine in
     let verbs : Fold ≡ Mine = sym fold ∙ ap (λ (c : Command). c.verb) same in cc
+
+-- nor is to migrate
+pub migrate-is_not_mine : (words : List (List ℕ)) (c : Command) (options : Options) → command_of words ≡ Some c →
+    c.verb ≡ Migrate → command_of words ≡ Some (mine_command options) → ⊥
+migrate-is_not_mine words c options given migrate mine =
+    let same = same_command words c (mine_command options) given mine in
+    let verbs : Migrate ≡ Mine = sym migrate ∙ ap (λ (c : Command). c.verb) same in cc

@@ -2,10 +2,16 @@ pub mod Reaching
 pub mod Leading
 pub mod Going
 pub mod Turning
-mod Stepping
 mod Nothing
 mod Commands
 mod Jobs
 mod Listing
 mod Outputs
 pub mod Telling
+mod Keeping
+mod Emptying
+mod Standing
+mod Between
+mod Mined
+mod Taking
+mod Heading

@@ -7,28 +7,30 @@ use Rattle.graph_types.specs.meaning.Graph.{Graph, empty_graph}
 use Rattle.mining_model.specs.meaning.Embeddings.{Pattern}
 use Rattle.mining_model.specs.meaning.History.{history, graph_at}
 use Rattle.mining_model.proofs.Histories.{graph_at-next, length-history}
-use Rattle.record_text.specs.meaning.Text.{record_count, step_text, text_upto}
-use Rattle.tesseract.specs.declared.limits.Limits.{Limits}
+use Rattle.record_text.specs.declared.record_format.RecordFormat.{RecordFormat}
+use Rattle.record_text.specs.meaning.Text.{count_after, count_at, count_in, history_text, opening_text, record_count, step_text, text_upto}
+use Rattle.record_text.proofs.Texts.{count_after-in}
+use Rattle.tesseract.specs.declared.terms.Terms.{Terms}
 use Rattle.tesseract.specs.declared.status.Status.{Status}
 use Rattle.tesseract.specs.declared.status.Status.TheVariants as status
 use Rattle.tesseract.specs.declared.status.LimitKind.TheVariants as limit
 use Rattle.job.specs.meaning.Judging.{Verdict, reading_end}
 use Rattle.tesseract.specs.meaning.Status.{status_of_end}
-use Rattle.tesseract.specs.meaning.Output.{Output, with_text, output_from, output_under, output, records_at}
+use Rattle.tesseract.specs.meaning.Output.{Output, with_text, opening, output_from, output_under, output, records_at}
 use Rattle.tesseract.specs.meaning.Output.{EndsAfterAll, EndsBeforeFull, IsWrittenUpto}
 
 -- an output has the text of timestamps 1 to m of a history, and ends there
-record HasTextUpto (most : ℕ) (pattern : Pattern) (g : Graph) (later : List Graph) (end : Status) (o : Output)
-    (m : ℕ) : Type 0 where
-  text_is : o.text ≡ text_upto pattern g later m
+record HasTextUpto (most : ℕ) (format : RecordFormat) (pattern : Pattern) (g : Graph) (later : List Graph) (end : Status)
+    (o : Output) (m : ℕ) : Type 0 where
+  text_is : o.text ≡ text_upto format pattern g later m
   few : (t : ℕ) → t ≤ m → records_at pattern g later t ≤ most
   end_is : ((m ≡ length later) × (o.end ≡ end))
       ⊎ ((m < length later) × (most < records_at pattern g later (suc m))
       × (o.end ≡ status.Limit limit.Records (suc m)))
 
-module _ (most : ℕ) (pattern : Pattern) (g : Graph) (later : List Graph) (end : Status) where
+module _ (most : ℕ) (format : RecordFormat) (pattern : Pattern) (g : Graph) (later : List Graph) (end : Status) where
   abbrev Upto : Output → ℕ → Type 0
-  Upto o m = HasTextUpto most pattern g later end o m
+  Upto o m = HasTextUpto most format pattern g later end o m
 
   few_more : (t : ℕ) → ((s : ℕ) → s ≤ t → records_at pattern g later s ≤ most) →
       records_at pattern g later (suc t) ≤ most → (s : ℕ) → s ≤ suc t → records_at pattern g later s ≤ most
@@ -40,7 +42,8 @@ module _ (most : ℕ) (pattern : Pattern) (g : Graph) (later : List Graph) (end 
   output_of_rest : (seen rest : List Graph) (t : ℕ) → seen ++ rest ≡ later → length seen ≡ t →
       ((s : ℕ) → s ≤ t → records_at pattern g later s ≤ most) →
       (m : ℕ) × Upto
-      (with_text (text_upto pattern g later t) (output_from most pattern (graph_at g later t) t rest end)) m
+      (with_text (text_upto format pattern g later t)
+      (output_from most (count_at format pattern g later t) pattern (graph_at g later t) t rest end)) m
   output_of_rest seen [] t split long few = (
     t,
     record {
@@ -51,17 +54,18 @@ module _ (most : ℕ) (pattern : Pattern) (g : Graph) (later : List Graph) (end 
   )
   output_of_rest seen (next ∷ rest) t split long few =
       let before = graph_at g later t in
-      let upto = text_upto pattern g later t in
+      let upto = text_upto format pattern g later t in
+      let n = count_at format pattern g later t in
       let now : graph_at g later (suc t) ≡ next =
       ap (λ graphs. graph_at g graphs (suc t)) (sym split) ∙ graph_at-next g seen next rest t long in
       let count : record_count pattern before next ≡ records_at pattern g later (suc t) =
       ap (λ h. record_count pattern before h) (sym now) in
       let whole : length later ≡ length seen + suc (length rest) =
       ap length (sym split) ∙ length-append seen (next ∷ rest) in
-      let more = output_from most pattern next (suc t) rest end in
+      let more = output_from most (count_after pattern before next n) pattern next (suc t) rest end in
       let none : Output = record { text = []; end = status.Limit limit.Records (suc t) } in
       cond_both (nat_lt most (record_count pattern before next)) none
-      (with_text (step_text pattern before next (suc t)) more)
+      (with_text (step_text n pattern before next (suc t)) more)
       (λ (o : Output). (m : ℕ) × Upto (with_text upto o) m)
       (λ full. (
         t,
@@ -76,8 +80,11 @@ module _ (most : ℕ) (pattern : Pattern) (g : Graph) (later : List Graph) (end 
         },
       ))
       (λ small. subst (λ (o : Output). (m : ℕ) × Upto o m)
-      (ap (λ h. with_text (upto ++ step_text pattern before h (suc t)) (output_from most pattern h (suc t) rest end))
-      now
+      (ap (λ c. with_text (text_upto format pattern g later (suc t))
+      (output_from most c pattern (graph_at g later (suc t)) (suc t) rest end))
+      (sym (count_after-in format pattern before (graph_at g later (suc t)) _))
+      ∙ ap (λ h. with_text (upto ++ step_text n pattern before h (suc t))
+      (output_from most (count_after pattern before h n) pattern h (suc t) rest end)) now
       ∙ ap (λ all. let o : Output = record { text = all; end = more.end } in o) (append_assoc upto _ more.text))
       (output_of_rest (seen ++ next ∷ []) rest (suc t) (append_assoc seen (next ∷ []) rest ∙ split)
       (omega (arith, long, length-append seen (next ∷ [])))
@@ -87,17 +94,18 @@ module _ (most : ℕ) (pattern : Pattern) (g : Graph) (later : List Graph) (end 
   few_none zero within = omega arith
   few_none (suc t) within = absurd (omega (arith, within))
 
-  output_from-start : (m : ℕ) × Upto (output_from most pattern g 0 later end) m
+  output_from-start : (m : ℕ) × Upto (output_from most (count_in format 0) pattern g 0 later end) m
   output_from-start = output_of_rest [] later 0 refl refl few_none
 
-module _ (limits : Limits) (v : Verdict) (pattern : Pattern) where
+module _ (terms : Terms) (v : Verdict) (pattern : Pattern) where
   abbrev graphs : List Graph
   graphs = history empty_graph v.groups
 
-  IsWritten-from : (o : Output) (m : ℕ) → o ≡ output limits v →
-      HasTextUpto limits.records pattern empty_graph graphs (status_of_end (reading_end v)) o m → IsWrittenUpto limits v pattern m
+  IsWritten-from : (o : Output) (m : ℕ) → with_text (opening_text terms.format) o ≡ output terms v →
+      HasTextUpto terms.records terms.format pattern empty_graph graphs (status_of_end (reading_end v)) o m →
+      IsWrittenUpto terms v pattern m
   IsWritten-from o m is upto = record {
-    text_is = ap (λ o. o.text) (sym is) ∙ upto.text_is;
+    text_is = ap (λ o. o.text) (sym is) ∙ ap (λ text. opening_text terms.format ++ text) upto.text_is;
     few = upto.few;
     end_is = elim upto.end_is [
       | inl all ↦ inl (record {
@@ -113,18 +121,21 @@ module _ (limits : Limits) (v : Verdict) (pattern : Pattern) where
   }
 
   -- the output of a job with a program
-  pub output-upto : v.pattern ≡ Some pattern → (m : ℕ) × IsWrittenUpto limits v pattern m
+  pub output-upto : v.pattern ≡ Some pattern → (m : ℕ) × IsWrittenUpto terms v pattern m
   output-upto is =
-      let upto = output_from-start limits.records pattern empty_graph graphs (status_of_end (reading_end v)) in (
+      let upto = output_from-start terms.records terms.format pattern empty_graph graphs (status_of_end (reading_end v)) in (
         upto.0,
-        IsWritten-from _ upto.0 (ap (λ p. output_under limits.records p empty_graph 0 v.groups (status_of_end (reading_end v))) (sym is)) upto.1,
+        IsWritten-from _ upto.0
+            (ap (λ p. with_text (opening terms.format p)
+            (output_under terms.records (count_in terms.format 0) p empty_graph 0 v.groups (status_of_end (reading_end v)))) (sym is))
+            upto.1,
       )
 
-  within_of : (m : ℕ) (end : Status) → EndsAfterAll v m end ⊎ EndsBeforeFull limits v pattern m end →
+  within_of : (m : ℕ) (end : Status) → EndsAfterAll v m end ⊎ EndsBeforeFull terms v pattern m end →
       m ≤ length v.groups
   within_of m end (inl last) = omega (arith, last.all)
   within_of m end (inr full) = omega (arith, full.of_job)
 
   -- no more timestamps are written than there are
-  pub written-within : (m : ℕ) → IsWrittenUpto limits v pattern m → m ≤ length v.groups
-  written-within m upto = within_of m (output limits v).end upto.end_is
+  pub written-within : (m : ℕ) → IsWrittenUpto terms v pattern m → m ≤ length v.groups
+  written-within m upto = within_of m (output terms v).end upto.end_is

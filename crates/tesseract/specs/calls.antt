@@ -1,7 +1,9 @@
 -- What the calls do, by their results.
 pub mod Run
 pub mod Fold
-pub mod Miner
+pub mod Migrate
+pub mod Waiting
 pub mod Turning
 pub mod Running
 pub mod Progress
+pub mod Writing

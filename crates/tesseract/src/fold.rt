@@ -14,7 +14,7 @@ use std::alloc::Global;
 pub fn fold<S: Source, O: Sink>(
     alloc: Global,
     most: u64,
-    at: Option<u64>,
+    at: Option<u32>,
     input: &mut S,
     out: &mut O,
 ) -> Status
@@ -39,10 +39,10 @@ pub fn fold<S: Source, O: Sink>(
     }
 }
 
-fn stamp(at: Option<u64>) -> Option<Stamp>
+fn stamp(at: Option<u32>) -> Option<Stamp>
     ensures { result ≡ at }
 {
-    Some(Stamp(at?))
+    Some(Stamp(u64::from(at?)))
 }
 
 fn write<O: Sink>(out: &mut O, pieces: &PieceList) -> Result<(), WriteFault>

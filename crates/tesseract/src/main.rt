@@ -1,17 +1,19 @@
 //! Mines patterns in a graph that changes: reads a program and a stream of updates from standard
 //! input, and writes what each update takes away and brings to standard output. Or reads such records
-//! back, and writes the pieces that are there at a timestamp.
+//! back, and writes the pieces that are there at a timestamp, or the same records in the later format.
 #![tactic(auto)]
 
 mod fold;
 pub mod laws;
-mod limits;
+mod migrate;
 mod mine;
-mod miner;
+mod mining;
 mod run;
 mod status;
+mod terms;
 #[cfg(test)]
 mod tests;
+mod waiting;
 
 use graph_types::FreeGate;
 use job_io::{StdSink, StdSource};

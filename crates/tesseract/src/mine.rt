@@ -1,31 +1,35 @@
-ghost use Rattle.std.specs.Prelude.{◌≡◌, ◌≢◌, Contains, ◌+◌, ◌++◌, ◌<◌, ◌≤◌, ◌^◌, ◌⊎◌, ℕ, [], List, Option, Some, IsTrue, Ok, OnErr, OnOk};
-ghost use Rattle.graph_types.specs.meaning.Piece.{members_of_all};
-ghost use Rattle.mining_model.specs.meaning.Step.{step};
-ghost use Rattle.record_text.specs.meaning.Text.{delta_text, done_text};
-ghost use Rattle.job.specs.calls.Taking.{stage_of};
-ghost use Rattle.job.specs.meaning.Judging.{close_at, graph_at_stage};
-ghost use Rattle.job_io.specs.meaning.Lines.{lf};
-ghost use Rattle.job_io.specs.calls.Ends.{Gathers, HasCause, HasRisen};
+ghost use Rattle.std.specs.Prelude.{◌≡◌, ◌≢◌, Contains, ◌+◌, ◌*◌, ◌<◌, ◌≤◌, ◌^◌, ◌⊎◌, ℕ, [], List, Option, Some, IsTrue, IfOk, Ok, OnErr, OnOk};
+ghost use Rattle.cond_eval.specs.meaning.Patterns.{pattern_of};
+ghost use Rattle.job.specs.calls.Standing.{IsStageOf};
+ghost use Rattle.job.specs.meaning.Judging.{Stage, close_at};
+ghost use Rattle.job_io.specs.meaning.Lines.{Reading, lf};
+ghost use Rattle.job_io.specs.calls.Ends.{BothKnown, Gathers, HasCause, HasRisen};
+ghost use Rattle.tesseract.specs.calls.Progress.{Progress, first_progress};
 ghost use Rattle.tesseract.specs.calls.Run.{Mines, WritesTold};
-ghost use Rattle.tesseract.specs.calls.Running.{IsRunning};
+ghost use Rattle.tesseract.specs.calls.Running.{EndsJob, IsEnd, IsRunning};
+ghost use Rattle.tesseract.specs.calls.Turning.{Advances, GoesToNext, IsAtEnd, IsGiven, IsPlan, MinesLines, Stands, StandsBefore, StandsSomewhere, TakesHeading, Turns, WaitsUnder, opening_for};
+ghost use Rattle.tesseract.specs.meaning.Output.{IsCountable};
 ghost use Rattle.tesseract.specs.meaning.Status.{status_of_end};
-ghost use Rattle.tesseract.specs.calls.Turning.{Advances, MinesGroup, StandsAtNextAfter, Turns, MinesLines};
 
-use crate::limits::Limits;
-use crate::miner::Miner;
+use crate::mining::{Emptied, mine_waiting};
 use crate::status::{LimitKind, Status};
-use delta_task::Delta;
-use graph_types::{PieceList, Stamp, Update};
-use job::{Job, Stream, Taken};
+use crate::terms::{Plan, Terms};
+use crate::waiting::{Kept, Waiting};
+use filter_polarity::Program;
+use graph_types::{Gate, NoMemory, Stamp};
+use group_window::Window;
+use job::{Header, Job, Stream};
 use job_io::{LineFault, LineReader, Page, Sink, Source, WriteFault};
-use record_text::{write_delta, write_done};
+use record_text::{RecordFormat, write_head};
+use shard_state::sharing::make_shards;
 use std::alloc::Global;
+use std::sync::Wait;
 
-/// A run between two lines: all that was accepted is mined.
+/// A run between two lines.
 #[derive(Drop)]
 pub struct Run {
     pub job: Job,
-    pub miner: Miner,
+    pub waiting: Waiting,
 }
 
 /// What a line leads to.
@@ -35,13 +39,40 @@ pub enum Turn {
     End(Status),
 }
 
-/// Mines a job within these limits: reads it line by line, and writes what each update takes away and
-/// brings. Output is held back in a page, and sent before the source is asked for more.
-pub fn mine<S: Source, O: Sink>(alloc: Global, limits: Limits, input: &mut S, out: &mut O) -> Status
-    requires { limits.lines ≤ 10 ^ 19 }
-    ensures mined { Mines limits (S.left input.old) (S.left input.new)
+impl Run {
+    /// A run before the first line.
+    fn new(alloc: Global, plan: Plan) -> Result<Run, NoMemory>
+        requires { IsPlan plan }
+        ensures { (terms : Terms) → IfOk result (Stands terms plan (first_progress terms)) }
+    {
+        Ok(Run {
+            job: Job::new(alloc)?,
+            waiting: Waiting {
+                window: Window::new(alloc, Stamp(0), plan.shards),
+                shards: make_shards(alloc, plan.shards)?,
+                standing: 0,
+            },
+        })
+    }
+}
+
+/// Mines a job on these terms: reads it line by line, gathers what is accepted in windows, and writes what each
+/// timestamp takes away and brings once its window ends. Output is held back in a page, and sent before the source is
+/// asked for more.
+pub fn mine<R: Wait, S: Source, O: Sink, G: Gate>(
+    rt: &R,
+    alloc: Global,
+    terms: Terms,
+    plan: Plan,
+    input: &mut S,
+    out: &mut O,
+    gate: &G,
+) -> Status
+    requires countable { IsCountable terms }
+    requires planned { IsPlan plan }
+    ensures mined { Mines terms (S.left input.old) (S.left input.new)
         (O.written out.old) (O.written out.new) result }
-    ensures tells { WritesTold limits (S.left input.old) (S.left input.new)
+    ensures tells { WritesTold terms (S.left input.old) (S.left input.new)
         (O.written out.old) (O.written out.new) }
     ensures not_usage { result ≢ Status.Usage }
     ensures read_cause { result ≡ Status.ReadFault →
@@ -49,7 +80,7 @@ pub fn mine<S: Source, O: Sink>(alloc: Global, limits: Limits, input: &mut S, ou
     ensures write_cause { result ≡ Status.WriteFault → HasRisen (O.faults out.old) (O.faults out.new) }
 {
     let mut page = Page::new();
-    match mine_lines(alloc, limits, &mut page, input, out) {
+    match mine_lines(rt, alloc, terms, plan, &mut page, input, out, gate) {
         Ok(status) => match page.send(out) {
             Ok(()) => status,
             Err(WriteFault) => Status::WriteFault,
@@ -59,16 +90,20 @@ pub fn mine<S: Source, O: Sink>(alloc: Global, limits: Limits, input: &mut S, ou
 }
 
 /// Takes all lines. What the page holds at the end is still to be sent.
-fn mine_lines<S: Source, O: Sink>(
+fn mine_lines<R: Wait, S: Source, O: Sink, G: Gate>(
+    rt: &R,
     alloc: Global,
-    limits: Limits,
+    terms: Terms,
+    plan: Plan,
     page: &mut Page,
     input: &mut S,
     out: &mut O,
+    gate: &G,
 ) -> Result<Status, WriteFault>
-    requires few { limits.lines ≤ 10 ^ 19 }
+    requires countable { IsCountable terms }
+    requires planned { IsPlan plan }
     requires fresh { page.old ≡ [] }
-    ensures mined { MinesLines limits (S.left input.old) (S.left input.new)
+    ensures mined { MinesLines terms (S.left input.old) (S.left input.new)
         (O.written out.old) (O.written out.new) page.new result }
     ensures reads { S.faults input.old ≤ S.faults input.new }
     ensures writes { O.faults out.old ≤ O.faults out.new }
@@ -76,41 +111,53 @@ fn mine_lines<S: Source, O: Sink>(
         HasRisen (S.faults input.old) (S.faults input.new) }
     ensures write_cause { OnErr result (HasRisen (O.faults out.old) (O.faults out.new)) }
 {
-    let Ok(mut reader) = LineReader::new(alloc, limits.lines) else {
+    let Ok(mut reader) = LineReader::new(alloc, terms.lines) else {
         return Ok(Status::NoMemory);
     };
-    let Ok(job) = Job::new(alloc) else {
+    let Ok(mut run) = Run::new(alloc, plan) else {
         return Ok(Status::NoMemory);
     };
-    let miner = Miner::new(alloc);
-    let mut run = Run { job, miner };
     'lines: loop {
-        match take_line(alloc, limits.records, &mut reader, run, page, input, out)? {
+        match take_line(
+            rt,
+            alloc,
+            terms,
+            plan,
+            &mut reader,
+            run,
+            page,
+            input,
+            out,
+            gate,
+        )? {
             Turn::More(next) => run = next,
             Turn::End(status) => return Ok(status),
         }
     }
 }
 
-/// Takes the next line, whose timestamp may have at most `most` records.
-fn take_line<S: Source, O: Sink>(
+/// Takes the next line.
+fn take_line<R: Wait, S: Source, O: Sink, G: Gate>(
+    rt: &R,
     alloc: Global,
-    most: u32,
+    terms: Terms,
+    plan: Plan,
     reader: &mut LineReader,
     run: Run,
     page: &mut Page,
     input: &mut S,
     out: &mut O,
+    gate: &G,
 ) -> Result<Turn, WriteFault>
+    requires countable { IsCountable terms }
+    requires planned { IsPlan plan }
     requires live { IsTrue reader.old.live }
-    requires stamped { run.miner.stamp ≤ reader.old.number }
-    requires stands { run.miner.graph ≡ graph_at_stage (stage_of run.job) }
-    ensures runs { (left0 written0 : Option (List ℕ)) →
-        IsRunning (record { lines = reader.old.most; records = most }) left0 (S.left input.old) written0 (O.written out.old)
-        page.old reader.old (stage_of run.job) run.miner.stamp →
-        Turns (record { lines = reader.old.most; records = most }) left0 (S.left input.new) written0 (O.written out.new)
-        page.new reader.new result }
-    ensures goes { StandsAtNextAfter reader.old reader.new result }
+    requires most { reader.old.most ≡ terms.lines }
+    requires stands { StandsBefore terms plan (reader.old.number + 1) run }
+    ensures runs { (left0 written0 : Option (List ℕ)) (p : Progress) → Stands terms plan p run →
+        IsRunning terms left0 (S.left input.old) written0 (O.written out.old) page.old reader.old p →
+        Turns terms plan left0 (S.left input.new) written0 (O.written out.new) page.new reader.new result }
+    ensures goes { GoesToNext reader.old reader.new result }
     ensures reads { S.faults input.old ≤ S.faults input.new }
     ensures writes { O.faults out.old ≤ O.faults out.new }
     ensures read_cause { result ≡ Ok (Turn.End Status.ReadFault) →
@@ -118,48 +165,226 @@ fn take_line<S: Source, O: Sink>(
     ensures write_cause { OnErr result (HasRisen (O.faults out.old) (O.faults out.new)) }
 {
     send_before_wait(reader, page, out)?;
-    let Run { job, miner } = run;
-    if let Some(status) = advance(reader, page, &job, input) {
-        return Ok(Turn::End(status));
+    if let Some(status) = advance(reader, page, &run.job, input) {
+        return close(rt, alloc, terms, plan, run, status, page, out, gate);
     }
-    match job.take(alloc, reader.number(), reader.bytes()) {
-        Ok(Taken::Moved(job)) => Ok(Turn::More(Run { job, miner })),
-        Ok(Taken::Accepted(stream, update)) => {
-            mine_group(alloc, most, stream, &update, miner, page, out)
+    let Run { job, waiting } = run;
+    match job {
+        Job::Heading(header) => take_header(
+            alloc,
+            terms,
+            header,
+            reader.number(),
+            reader.bytes(),
+            waiting,
+            page,
+            out,
+        ),
+        Job::Streaming(stream) => take_update(
+            rt,
+            alloc,
+            terms,
+            plan,
+            stream,
+            reader.number(),
+            reader.bytes(),
+            waiting,
+            page,
+            out,
+            gate,
+        ),
+    }
+}
+
+/// Takes a line of the header, which was given last. Once the header is whole, what stands before the first timestamp is
+/// written.
+fn take_header<O: Sink>(
+    alloc: Global,
+    terms: Terms,
+    header: Header,
+    number: u64,
+    text: &[u8],
+    waiting: Waiting,
+    page: &mut Page,
+    out: &mut O,
+) -> Result<Turn, WriteFault>
+    ensures takes { TakesHeading terms number header text.now waiting
+        (O.written out.old) page.old (O.written out.new) page.new result }
+    ensures unread { result ≢ Ok (Turn.End Status.ReadFault) }
+    ensures cause { HasCause (O.faults out.old) (O.faults out.new) result }
+{
+    match header.take(alloc, number, text) {
+        Ok(job) => {
+            write_opening(terms.format, &job, page, out)?;
+            Ok(Turn::More(Run { job, waiting }))
         }
         Err(fault) => Ok(Turn::End(Status::from(fault))),
     }
 }
 
-/// Mines the update that led to this stream, and writes its records, of which there may be `most`.
-fn mine_group<O: Sink>(
-    alloc: Global,
-    most: u32,
-    stream: Stream,
-    update: &Update,
-    mut miner: Miner,
+/// Writes what stands before the first timestamp, where the job is in its stream.
+fn write_opening<O: Sink>(
+    format: RecordFormat,
+    job: &Job,
     page: &mut Page,
     out: &mut O,
-) -> Result<Turn, WriteFault>
-    requires few { miner.stamp + 1 < 2 ^ 64 }
-    requires steps { step miner.graph update.now ≡ Ok stream.graph }
-    ensures mines { MinesGroup most stream miner (O.written out.old) page.old (O.written out.new) page.new result }
+) -> Result<(), WriteFault>
+    ensures text { Gathers (O.written out.old) page.old (O.written out.new) page.new (opening_for format job.now) result }
     ensures cause { HasCause (O.faults out.old) (O.faults out.new) result }
 {
-    let Ok(delta) = miner.advance(alloc, &stream.program, update, &stream.graph, most) else {
-        return Ok(Turn::End(Status::NoMemory));
+    match (format, job) {
+        (RecordFormat::Two, Job::Streaming(_)) => write_head(out, page),
+        _ => Ok(()),
+    }
+}
+
+/// Takes a line of the stream, which was given last: makes the update that is accepted, or opens or ends a batch, and
+/// mines what waits where its window ends.
+fn take_update<R: Wait, O: Sink, G: Gate>(
+    rt: &R,
+    alloc: Global,
+    terms: Terms,
+    plan: Plan,
+    stream: Stream,
+    number: u64,
+    text: &[u8],
+    waiting: Waiting,
+    page: &mut Page,
+    out: &mut O,
+    gate: &G,
+) -> Result<Turn, WriteFault>
+    requires countable { IsCountable terms }
+    requires planned { IsPlan plan }
+    requires counted { number ≤ terms.lines }
+    requires stands { StandsBefore terms plan number (record { job = Job.Streaming stream; waiting = waiting }) }
+    ensures runs { (left0 was is written0 : Option (List ℕ)) (old new : Reading) (p : Progress) →
+        IsGiven old new was is number text.now → old.most ≡ terms.lines →
+        Stands terms plan p (record { job = Job.Streaming stream; waiting = waiting }) →
+        IsRunning terms left0 was written0 (O.written out.old) page.old old p →
+        Turns terms plan left0 is written0 (O.written out.new) page.new new result }
+    ensures unread { result ≢ Ok (Turn.End Status.ReadFault) }
+    ensures cause { HasCause (O.faults out.old) (O.faults out.new) result }
+{
+    let mut stream = stream;
+    let mut waiting = waiting;
+    let item = match stream.take(alloc, number, text) {
+        Ok(item) => item,
+        Err(fault) => {
+            return end(
+                rt,
+                alloc,
+                terms,
+                plan,
+                &stream.program,
+                waiting,
+                Status::from(fault),
+                page,
+                out,
+                gate,
+            );
+        }
     };
-    let Delta::Listed { rem, add } = delta else {
-        return Ok(Turn::End(Status::Limit {
-            kind: LimitKind::Records,
-            at: miner.stamp.0,
-        }));
-    };
-    write_changes(out, page, miner.stamp, &rem, &add)?;
-    Ok(Turn::More(Run {
-        job: Job::Streaming(stream),
-        miner,
-    }))
+    match waiting.keep(&mut stream.graph, item, plan.window) {
+        Err(NoMemory) => Ok(Turn::End(Status::NoMemory)),
+        Ok(Kept::More) => Ok(Turn::More(Run {
+            job: Job::Streaming(stream),
+            waiting,
+        })),
+        Ok(Kept::Ended) => {
+            match mine_waiting(
+                rt,
+                alloc,
+                terms,
+                plan,
+                &stream.program,
+                waiting,
+                page,
+                out,
+                gate,
+            )? {
+                Emptied::Nothing(waiting) => Ok(Turn::More(Run {
+                    job: Job::Streaming(stream),
+                    waiting,
+                })),
+                Emptied::End(status) => Ok(Turn::End(status)),
+            }
+        }
+    }
+}
+
+/// Ends a run where its job ends so. What was accepted before is mined first.
+fn close<R: Wait, O: Sink, G: Gate>(
+    rt: &R,
+    alloc: Global,
+    terms: Terms,
+    plan: Plan,
+    run: Run,
+    status: Status,
+    page: &mut Page,
+    out: &mut O,
+    gate: &G,
+) -> Result<Turn, WriteFault>
+    requires countable { IsCountable terms }
+    requires planned { IsPlan plan }
+    requires stands { StandsSomewhere terms plan run }
+    ensures runs { (left0 left left' written0 : Option (List ℕ)) (old new : Reading) (p : Progress) →
+        IsEnd status → BothKnown left left' (λ was is. EndsJob terms.lines old new was is p.stage status) →
+        Stands terms plan p run → IsRunning terms left0 left written0 (O.written out.old) page.old old p →
+        Turns terms plan left0 left' written0 (O.written out.new) page.new new result }
+    ensures ends { IfOk result IsAtEnd }
+    ensures unread { result ≡ Ok (Turn.End Status.ReadFault) → status ≡ Status.ReadFault }
+    ensures cause { HasCause (O.faults out.old) (O.faults out.new) result }
+{
+    let Run { job, waiting } = run;
+    match job {
+        Job::Heading(_) => Ok(Turn::End(status)),
+        Job::Streaming(stream) => end(
+            rt,
+            alloc,
+            terms,
+            plan,
+            &stream.program,
+            waiting,
+            status,
+            page,
+            out,
+            gate,
+        ),
+    }
+}
+
+/// Ends a run whose job ends so in its stream. A batch that is open is left out.
+fn end<R: Wait, O: Sink, G: Gate>(
+    rt: &R,
+    alloc: Global,
+    terms: Terms,
+    plan: Plan,
+    program: &Program,
+    waiting: Waiting,
+    status: Status,
+    page: &mut Page,
+    out: &mut O,
+    gate: &G,
+) -> Result<Turn, WriteFault>
+    requires countable { IsCountable terms }
+    requires planned { IsPlan plan }
+    requires waits { (p : Progress) × WaitsUnder terms plan (pattern_of program.now) p waiting }
+    ensures runs { (left0 left left' written0 : Option (List ℕ)) (old new : Reading) (p : Progress) →
+        IsEnd status → BothKnown left left' (λ was is. EndsJob terms.lines old new was is p.stage status) →
+        WaitsUnder terms plan (pattern_of program.now) p waiting →
+        IsRunning terms left0 left written0 (O.written out.old) page.old old p →
+        Turns terms plan left0 left' written0 (O.written out.new) page.new new result }
+    ensures ends { IfOk result IsAtEnd }
+    ensures unread { result ≡ Ok (Turn.End Status.ReadFault) → status ≡ Status.ReadFault }
+    ensures cause { HasCause (O.faults out.old) (O.faults out.new) result }
+{
+    if status == Status::NoMemory {
+        return Ok(Turn::End(status));
+    }
+    match mine_waiting(rt, alloc, terms, plan, program, waiting, page, out, gate)? {
+        Emptied::Nothing(_waiting) => Ok(Turn::End(status)),
+        Emptied::End(why) => Ok(Turn::End(why)),
+    }
 }
 
 /// Sends what the page holds, unless the next line is there already.
@@ -188,7 +413,7 @@ fn advance<S: Source>(
 ) -> Option<Status>
     requires live { IsTrue reader.old.live }
     requires nothing_waits { (page.now ≡ []) ⊎ Contains reader.old.held lf }
-    ensures advances { Advances (stage_of job.now) reader.old reader.new
+    ensures advances { (stage : Stage) → IsStageOf stage job.now → Advances stage reader.old reader.new
         (S.left input.old) (S.left input.new) result }
     ensures reads { S.faults input.old ≤ S.faults input.new }
     ensures read_cause { result ≡ Some Status.ReadFault →
@@ -211,26 +436,11 @@ fn advance<S: Source>(
 
 /// How a job ends of which `number` lines were all.
 fn end_of(job: &Job, number: u64) -> Status
-    ensures { result ≡ status_of_end (close_at number (stage_of job.now)) }
+    ensures ends { (stage : Stage) → IsStageOf stage job.now → result ≡ status_of_end (close_at number stage) }
+    ensures read { result ≢ Status.ReadFault }
 {
     match job.close(number) {
         None => Status::Ok,
         Some(why) => Status::from(why),
     }
-}
-
-/// Writes the records of a timestamp and the line that closes it.
-fn write_changes<O: Sink>(
-    out: &mut O,
-    page: &mut Page,
-    t: Stamp,
-    rem: &PieceList,
-    add: &PieceList,
-) -> Result<(), WriteFault>
-    ensures text { Gathers (O.written out.old) page.old (O.written out.new) page.new
-        (delta_text t (members_of_all rem.now) (members_of_all add.now) ++ done_text t) result }
-    ensures cause { HasCause (O.faults out.old) (O.faults out.new) result }
-{
-    write_delta(out, page, t, rem, add)?;
-    write_done(out, page, t)
 }

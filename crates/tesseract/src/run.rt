@@ -1,41 +1,39 @@
 ghost use Rattle.std.specs.Prelude.{◌≡◌, IsTrue, Some, map, string_bytes};
+ghost use Rattle.command_words.specs.declared.command.Options.{Options};
+ghost use Rattle.command_words.specs.meaning.Ranges.{AreWithin};
 ghost use Rattle.command_words.specs.meaning.Words.{command_of};
-ghost use Rattle.tesseract.specs.meaning.Commands.{fold_command, is_still, mine_command};
+ghost use Rattle.tesseract.specs.meaning.Commands.{fold_command, format_of, is_still, mine_command, terms_of as job_terms};
 ghost use Rattle.tesseract.specs.calls.Fold.{FoldsNothing};
 ghost use Rattle.tesseract.specs.calls.Run.{AnswersWords, Mines, Tells, WritesTold};
-ghost use Rattle.tesseract.specs.meaning.Output.{mine_limits};
+ghost use Rattle.tesseract.specs.calls.Turning.{IsPlan};
 ghost use Rattle.tesseract.specs.meaning.Status.{status_line};
 
 use crate::fold::fold;
-use crate::limits::Limits;
+use crate::migrate::migrate;
 use crate::mine::mine;
 use crate::status::Status;
-use command_words::{Verb, read_words};
+use crate::terms::{Plan, Terms};
+use command_words::{Command, Options, Verb, read_words};
 use graph_types::Gate;
 use job_io::{Sink, Source, put_all};
+use record_text::RecordFormat;
 use std::alloc::Global;
 use std::sync::Wait;
 use std::thread::Threads;
-
-/// What `mine` allows a job.
-const MINE_LIMITS: Limits = Limits {
-    lines: 4_000_000_000,
-    records: 100_000,
-};
 
 /// How many lines a text of records may have.
 const MOST_RECORD_LINES: u64 = 4_000_000_000_000;
 
 /// Does what the words of the command line say, with these ends, and tells on `err` how it ended if
-/// it didn't end well. `rt` and `gate` are for commands with several threads; there are none yet.
+/// it didn't end well. The gate is passed at each timestamp that is mined.
 pub fn run<R: Wait + Threads, S: Source, O: Sink, E: Sink, G: Gate>(
-    _rt: &R,
+    rt: &R,
     alloc: Global,
     words: &[String],
     input: &mut S,
     out: &mut O,
     err: &mut E,
-    _gate: &G,
+    gate: &G,
 ) -> Status
     ensures answers { AnswersWords (map string_bytes words.now)
         (record { bytes = S.left input.old; faults = S.faults input.old })
@@ -45,33 +43,79 @@ pub fn run<R: Wait + Threads, S: Source, O: Sink, E: Sink, G: Gate>(
         (record { bytes = E.written err.old; faults = E.faults err.old })
         (record { bytes = E.written err.new; faults = E.faults err.new }) result }
 
-    // Words that give no command do nothing, and a fold up to timestamp 0 reads nothing.
+    // Words that give no command do nothing, a fold up to timestamp 0 reads nothing.
     ensures usage_does_nothing { result ≡ Status.Usage →
         (input.new ≡ input.old) × (out.new ≡ out.old) }
-    ensures unread { command_of (map string_bytes words.now) ≡ Some (fold_command (Some 0)) →
+    ensures unread { (options : Options) → options.at ≡ Some 0 →
+        command_of (map string_bytes words.now) ≡ Some (fold_command options) →
         (input.new ≡ input.old) × FoldsNothing result }
 
     // `mine` writes the text of the job, and its status is how the job ends.
-    ensures mined { command_of (map string_bytes words.now) ≡ Some mine_command →
-        Mines mine_limits (S.left input.old) (S.left input.new)
+    ensures mined { (options : Options) → command_of (map string_bytes words.now) ≡ Some (mine_command options) →
+        Mines (job_terms options) (S.left input.old) (S.left input.new)
         (O.written out.old) (O.written out.new) result }
 
     // Whatever the status, folding what `mine` wrote gives the embeddings of the job's snapshots alone, and
     // those of each timestamp whose line it wrote.
-    ensures tells { command_of (map string_bytes words.now) ≡ Some mine_command →
-        WritesTold mine_limits (S.left input.old) (S.left input.new)
+    ensures tells { (options : Options) → command_of (map string_bytes words.now) ≡ Some (mine_command options) →
+        WritesTold (job_terms options) (S.left input.old) (S.left input.new)
         (O.written out.old) (O.written out.new) }
 {
     match read_words(alloc, words) {
-        Ok(command) => match command.verb {
-            Verb::Mine => tell(err, mine(alloc, MINE_LIMITS, input, out)),
-            Verb::Fold => run_still(alloc, words, input, out, err),
+        Ok(Command { verb, options }) => match verb {
+            Verb::Mine => tell(
+                err,
+                mine(
+                    rt,
+                    alloc,
+                    terms_of(&options),
+                    plan_of(&options),
+                    input,
+                    out,
+                    gate,
+                ),
+            ),
+            Verb::Fold | Verb::Migrate => run_still(alloc, words, input, out, err),
         },
         Err(fault) => tell(err, Status::from(fault)),
     }
 }
 
-/// Does what the words of a command say that works on one thread: `fold`. It waits for nobody, and
+/// On which terms a job is mined.
+fn terms_of(options: &Options) -> Terms
+    ensures { result ≡ job_terms options.now }
+{
+    Terms {
+        lines: u64::from(options.max_lines),
+        records: options.max_records,
+        format: format(options.records),
+    }
+}
+
+/// The format of this number.
+fn format(number: u32) -> RecordFormat
+    ensures { result ≡ format_of number }
+{
+    if number == 1 {
+        RecordFormat::One
+    } else {
+        RecordFormat::Two
+    }
+}
+
+/// How a job is mined.
+fn plan_of(options: &Options) -> Plan
+    requires { AreWithin options.now }
+    ensures { IsPlan result }
+{
+    Plan {
+        window: options.window,
+        shards: options.shards,
+        workers: options.workers,
+    }
+}
+
+/// Does what the words of a command say that works on one thread: `fold` or `migrate`. It waits for nobody, and
 /// always returns.
 pub fn run_still<S: Source, O: Sink, E: Sink>(
     alloc: Global,
@@ -92,14 +136,18 @@ pub fn run_still<S: Source, O: Sink, E: Sink>(
     // Words that give no command do nothing, and a fold up to timestamp 0 reads nothing.
     ensures usage_does_nothing { result ≡ Status.Usage →
         (input.new ≡ input.old) × (out.new ≡ out.old) }
-    ensures unread { command_of (map string_bytes words.now) ≡ Some (fold_command (Some 0)) →
+    ensures unread { (options : Options) → options.at ≡ Some 0 →
+        command_of (map string_bytes words.now) ≡ Some (fold_command options) →
         (input.new ≡ input.old) × FoldsNothing result }
 {
     match read_words(alloc, words) {
-        Ok(command) => tell(
-            err,
-            fold(alloc, MOST_RECORD_LINES, command.options.at, input, out),
-        ),
+        Ok(Command { verb, options }) => {
+            let status = match verb {
+                Verb::Migrate => migrate(alloc, MOST_RECORD_LINES, input, out),
+                _ => fold(alloc, MOST_RECORD_LINES, options.at, input, out),
+            };
+            tell(err, status)
+        }
         Err(fault) => tell(err, Status::from(fault)),
     }
 }

@@ -39,6 +39,8 @@ pub enum InputKind {
     Update(Refusal),
     /// The record contradicts those before it.
     Record(FoldRefusal),
+    /// The lines end in a batch that is open.
+    OpenBatch,
     /// The records end, and the timestamp that was named isn't done.
     NotDone,
 }
@@ -52,6 +54,8 @@ pub enum LimitKind {
     Labels,
     /// The bytes of a line.
     LineBytes,
+    /// The updates of a batch.
+    Batch,
     /// The records of a timestamp.
     Records,
 }
@@ -82,6 +86,8 @@ impl From<JobRefusal> for Status {
             JobRefusal::BadLine(line) => bad_input(line, InputKind::BadLine),
             JobRefusal::Update { line, why } => bad_input(line, InputKind::Update(why)),
             JobRefusal::Labels(at) => passed(LimitKind::Labels, at),
+            JobRefusal::Batch(at) => passed(LimitKind::Batch, at),
+            JobRefusal::OpenBatch(line) => bad_input(line, InputKind::OpenBatch),
             JobRefusal::LineBytes(at) => passed(LimitKind::LineBytes, at),
             JobRefusal::Lines(at) => passed(LimitKind::Lines, at),
         }
@@ -211,6 +217,7 @@ impl InputKind {
             InputKind::BadLine => phrase(b"BadLine"),
             InputKind::Update(why) => refusal_name(why),
             InputKind::Record(why) => fold_refusal_name(*why),
+            InputKind::OpenBatch => phrase(b"OpenBatch"),
             InputKind::NotDone => phrase(b"NotDone"),
         }
     }
@@ -238,10 +245,18 @@ fn fold_refusal_name(why: FoldRefusal) -> ShortLine
     ensures short { length result ≤ 100 }
 {
     match why {
+        FoldRefusal::WrongForm => phrase(b"WrongForm"),
         FoldRefusal::MixedModes => phrase(b"MixedModes"),
         FoldRefusal::OutOfOrder => phrase(b"OutOfOrder"),
         FoldRefusal::AddsPresent => phrase(b"AddsPresent"),
         FoldRefusal::RemovesAbsent => phrase(b"RemovesAbsent"),
+        FoldRefusal::WrongCount { said, held } => {
+            let mut name = phrase(b"WrongCount ");
+            name.push_number(said);
+            name.push(b" ");
+            name.push_number(held);
+            name
+        }
     }
 }
 
@@ -254,6 +269,7 @@ impl LimitKind {
             LimitKind::Lines => phrase(b"Lines"),
             LimitKind::Labels => phrase(b"Labels"),
             LimitKind::LineBytes => phrase(b"LineBytes"),
+            LimitKind::Batch => phrase(b"Batch"),
             LimitKind::Records => phrase(b"Records"),
         }
     }

@@ -20,7 +20,8 @@ begin
 +e 1 3
 ";
 
-const RECORDS: &[u8] = b"DONE 1\nDONE 2\nDONE 3\nDONE 4\nDONE 5\nNEW 6 1 2 3\nDONE 6\n";
+const RECORDS: &[u8] =
+    b"records 2\nDONE 1 0\nDONE 2 0\nDONE 3 0\nDONE 4 0\nDONE 5 0\nNEW 6 1 2 3\nDONE 6 1\n";
 
 /// A run whose source gives a byte a call.
 #[derive(Clone, Copy)]
@@ -54,7 +55,7 @@ const RUNS: [Run; 8] = [
         failing: [110, 0, 0],
         room: 1000,
         status: 6,
-        output: b"DONE 1\nDONE 2\nDONE 3\nDONE 4\nDONE 5\n",
+        output: b"records 2\nDONE 1 0\nDONE 2 0\nDONE 3 0\nDONE 4 0\nDONE 5 0\n",
         error: b"read fault\n",
     },
     Run {
@@ -63,7 +64,7 @@ const RUNS: [Run; 8] = [
         failing: [0, 2, 0],
         room: 1000,
         status: 7,
-        output: b"DONE ",
+        output: b"recor",
         error: b"write fault\n",
     },
     Run {
@@ -72,7 +73,7 @@ const RUNS: [Run; 8] = [
         failing: [0, 0, 0],
         room: 40,
         status: 7,
-        output: b"DONE 1\nDONE 2\nDONE 3\nDONE 4\nDONE 5\nNEW 6",
+        output: b"records 2\nDONE 1 0\nDONE 2 0\nDONE 3 0\nDON",
         error: b"write fault\n",
     },
     // The status stays where it cannot be told.

@@ -12,62 +12,64 @@ use Rattle.snapshot_fold.specs.meaning.FoldText.{fold_text}
 use Rattle.snapshot_fold.specs.meaning.Records.{pieces_of}
 use Rattle.tesseract.specs.declared.status.Status.{Status}
 use Rattle.tesseract.specs.declared.status.Status.TheVariants as status
-use Rattle.tesseract.specs.declared.limits.Limits.{Limits}
+use Rattle.tesseract.specs.declared.terms.Terms.{Terms}
 use Rattle.job.specs.meaning.Judging.{Verdict, verdict}
 use Rattle.tesseract.specs.meaning.Output.{most_record_lines, output}
 use Rattle.tesseract.specs.meaning.Status.{status_line, status_of_end}
 use Rattle.command_words.specs.meaning.Words.{command_of}
-use Rattle.tesseract.specs.meaning.Commands.{fold_command}
+use Rattle.command_words.specs.declared.command.Options.{Options}
+use Rattle.tesseract.specs.meaning.Commands.{fold_command, migrate_command}
 use Rattle.tesseract.specs.calls.Fold.{Folds}
+use Rattle.tesseract.specs.calls.Migrate.{MigratesAs}
 
 -- This is the text of a whole input, and this is how its job ends.
-pub record IsJob (limits : Limits) (bytes text : List ℕ) (why : Status) : Type 0 where
-  pub text_is : text ≡ (output limits (verdict limits.lines (lines_of bytes))).text
-  pub end_is : why ≡ (output limits (verdict limits.lines (lines_of bytes))).end
+pub record IsJob (terms : Terms) (bytes text : List ℕ) (why : Status) : Type 0 where
+  pub text_is : text ≡ (output terms (verdict terms.lines (lines_of bytes))).text
+  pub end_is : why ≡ (output terms (verdict terms.lines (lines_of bytes))).end
 
 -- The source failed after it gave some of the input: this is the whole text of the lines whose LF it
 -- gave. None of them is refused, and none has too many records.
-pub record IsPrefixOfJob (limits : Limits) (bytes is text : List ℕ) : Type 0 where
+pub record IsPrefixOfJob (terms : Terms) (bytes is text : List ℕ) : Type 0 where
   pub taken : List ℕ
   pub split : bytes ≡ taken ++ is
-  pub text_is : text ≡ (output limits (verdict limits.lines (whole_lines_of taken))).text
-  pub no_stop : (verdict limits.lines (whole_lines_of taken)).stop ≡ None
+  pub text_is : text ≡ (output terms (verdict terms.lines (whole_lines_of taken))).text
+  pub no_stop : (verdict terms.lines (whole_lines_of taken)).stop ≡ None
   pub no_limit :
-      (output limits (verdict limits.lines (whole_lines_of taken))).end
-      ≡ status_of_end (verdict limits.lines (whole_lines_of taken)).close
+      (output terms (verdict terms.lines (whole_lines_of taken))).end
+      ≡ status_of_end (verdict terms.lines (whole_lines_of taken)).close
 
 -- The input's text is written, and the status is how its job ends.
-abbrev pub WritesText : Limits → Option (List ℕ) → Option (List ℕ) → Option (List ℕ) → Option (List ℕ) →
+abbrev pub WritesText : Terms → Option (List ℕ) → Option (List ℕ) → Option (List ℕ) → Option (List ℕ) →
     Status → Type 0
-WritesText limits left0 left written0 written why =
+WritesText terms left0 left written0 written why =
     BothKnown left0 left (λ bytes is.
-    (text : List ℕ) × IsJob limits bytes text why × Appends written0 written text)
+    (text : List ℕ) × IsJob terms bytes text why × Appends written0 written text)
 
 -- The lines whose LF the source gave before it failed are judged, and their text is written.
-abbrev pub WritesUnread : Limits → Option (List ℕ) → Option (List ℕ) → Option (List ℕ) →
+abbrev pub WritesUnread : Terms → Option (List ℕ) → Option (List ℕ) → Option (List ℕ) →
     Option (List ℕ) → Type 0
-WritesUnread limits left0 left written0 written =
+WritesUnread terms left0 left written0 written =
     BothKnown left0 left (λ bytes is.
-    (text : List ℕ) × IsPrefixOfJob limits bytes is text × Appends written0 written text)
+    (text : List ℕ) × IsPrefixOfJob terms bytes is text × Appends written0 written text)
 
 -- A prefix of the input's text is written.
-abbrev pub WritesPrefix : Limits → Option (List ℕ) → Option (List ℕ) → Option (List ℕ) →
+abbrev pub WritesPrefix : Terms → Option (List ℕ) → Option (List ℕ) → Option (List ℕ) →
     Option (List ℕ) → Type 0
-WritesPrefix limits left0 left written0 written =
+WritesPrefix terms left0 left written0 written =
     BothKnown left0 left (λ bytes is.
-    AppendsPrefix written0 written (output limits (verdict limits.lines (lines_of bytes))).text)
+    AppendsPrefix written0 written (output terms (verdict terms.lines (lines_of bytes))).text)
 
 -- What mining leaves, by its status. The source had left0 and has `left`, the sink had written0 and
 -- has `written`, where they tell.
-abbrev pub Mines : Limits → Option (List ℕ) → Option (List ℕ) → Option (List ℕ) → Option (List ℕ) →
+abbrev pub Mines : Terms → Option (List ℕ) → Option (List ℕ) → Option (List ℕ) → Option (List ℕ) →
     Status → Type 0
-Mines limits left0 left written0 written status.NoMemory =
-    WritesPrefix limits left0 left written0 written
-Mines limits left0 left written0 written status.WriteFault =
-    WritesPrefix limits left0 left written0 written
-Mines limits left0 left written0 written status.ReadFault =
-    WritesUnread limits left0 left written0 written
-Mines limits left0 left written0 written why = WritesText limits left0 left written0 written why
+Mines terms left0 left written0 written status.NoMemory =
+    WritesPrefix terms left0 left written0 written
+Mines terms left0 left written0 written status.WriteFault =
+    WritesPrefix terms left0 left written0 written
+Mines terms left0 left written0 written status.ReadFault =
+    WritesUnread terms left0 left written0 written
+Mines terms left0 left written0 written why = WritesText terms left0 left written0 written why
 
 -- The pieces are the embeddings of a job's snapshot at timestamp t, each once and in their order.
 pub record AreEmbeddingsAt (v : Verdict) (t : ℕ) (pieces : List PieceValue) : Type 0 where
@@ -78,18 +80,18 @@ pub record AreEmbeddingsAt (v : Verdict) (t : ℕ) (pieces : List PieceValue) : 
   pub exact : pieces ≡ pieces_of pattern.mode (embeddings pattern (snapshot v.groups t))
 
 -- What bytes tell that were written for the job of an input.
-pub record TellJob (limits : Limits) (input written : List ℕ) : Type 0 where
+pub record TellJob (terms : Terms) (input written : List ℕ) : Type 0 where
   -- Where folding them up to a timestamp from 1 on gives pieces, these are the job's embeddings there.
   pub exact : (t : ℕ) (pieces : List PieceValue) → 1 ≤ t → fold_text written t ≡ Some pieces →
-      AreEmbeddingsAt (verdict limits.lines (lines_of input)) t pieces
+      AreEmbeddingsAt (verdict terms.lines (lines_of input)) t pieces
   -- It does, where one of their whole lines says that the timestamp is done.
   pub where_done : (t : ℕ) → SayDone (whole_lines_of written) t → IsTrue (is_some (fold_text written t))
 
 -- What was written tells the job of the whole input, however far it came.
-abbrev pub WritesTold : Limits → Option (List ℕ) → Option (List ℕ) → Option (List ℕ) → Option (List ℕ) → Type 0
-WritesTold limits left0 left written0 written =
+abbrev pub WritesTold : Terms → Option (List ℕ) → Option (List ℕ) → Option (List ℕ) → Option (List ℕ) → Type 0
+WritesTold terms left0 left written0 written =
     BothKnown left0 left (λ bytes is.
-    (text : List ℕ) × Appends written0 written text × TellJob limits bytes text)
+    (text : List ℕ) × Appends written0 written text × TellJob terms bytes text)
 
 -- The line is told in full, or in part where the sink failed.
 abbrev pub Tells : Option (List ℕ) → Option (List ℕ) → ℕ → ℕ → List ℕ → Type 0
@@ -106,9 +108,12 @@ pub record EndState : Type 0 where
 pub record AnswersWords (words : List (List ℕ)) (input0 input out0 out err0 err : EndState) (why : Status) : Type 0 where
   -- Usage is told exactly of words that give no command.
   pub usage : (why ≡ status.Usage) ↔ (command_of words ≡ None)
-  -- `fold` writes the pieces that the records tell of.
-  pub folded : (at : Option ℕ) → command_of words ≡ Some (fold_command at) →
-      Folds most_record_lines at input0.bytes input.bytes out0.bytes out.bytes why
+  -- `fold` writes the pieces that the records tell of,
+  pub folded : (options : Options) → command_of words ≡ Some (fold_command options) →
+      Folds most_record_lines options.at input0.bytes input.bytes out0.bytes out.bytes why
+  -- and `migrate` writes the records anew.
+  pub migrated : (options : Options) → command_of words ≡ Some (migrate_command options) →
+      MigratesAs most_record_lines input0.bytes input.bytes out0.bytes out.bytes why
   -- A fault is told only of an end that failed in this call.
   pub read_cause : why ≡ status.ReadFault → HasRisen input0.faults input.faults
   pub write_cause : why ≡ status.WriteFault → HasRisen out0.faults out.faults

@@ -4,12 +4,12 @@ use Rattle.job_io.specs.calls.Ends.{BothKnown, PassesOn}
 use Rattle.job_io.specs.meaning.Lines.{Line, Reading, lines_of, whole_lines_of, GivesEnd, StopsInLine}
 use Rattle.tesseract.specs.declared.status.Status.{Status}
 use Rattle.tesseract.specs.declared.status.Status.TheVariants as status
-use Rattle.tesseract.specs.declared.limits.Limits.{Limits}
+use Rattle.tesseract.specs.declared.terms.Terms.{Terms}
 use Rattle.job.specs.declared.fault.JobRefusal.{JobRefusal}
 use Rattle.job.specs.meaning.Judging.{Stage, refused, judgement, close_at, verdict}
 use Rattle.tesseract.specs.meaning.Output.{output}
 use Rattle.tesseract.specs.meaning.Status.{status_of_end, status_of_refusal}
-use Rattle.tesseract.specs.calls.Progress.{all_mined, HasReached}
+use Rattle.tesseract.specs.calls.Progress.{Progress, HasReached}
 use Rattle.tesseract.specs.calls.Run.{IsJob, IsPrefixOfJob}
 
 -- The lines so far are all that LFs ended in the bytes given: whatever follows them adds its own.
@@ -25,21 +25,21 @@ pub record IsAfterLast (is : List ℕ) (reader : Reading) : Type 0 where
   pub unfinished : reader.line.whole ≡ false
   pub nothing : reader.held ++ is ≡ []
 
--- Of the input `bytes` the lines so far were read, and `is` is left in the source; `text` belongs
--- to these lines, and t is their last timestamp.
-pub record AtLine (limits : Limits) (bytes is text : List ℕ) (reader : Reading) (stage : Stage) (t : ℕ) :
-    Type 0 where
+-- Of the input `bytes` the lines so far were read, and `is` is left in the source; their job has come so far,
+-- and `text` is that of what was mined.
+pub record AtLine (terms : Terms) (bytes is text : List ℕ) (reader : Reading) (p : Progress) : Type 0 where
   pub gone : List Line
   pub lines : lines_of bytes ≡ gone ++ lines_of (reader.held ++ is)
-  pub reached : HasReached limits gone text (all_mined reader.number stage t)
+  pub reached : HasReached terms gone text p
   pub whole : WholeSoFar bytes is gone reader ⊎ IsAfterLast is reader
 
 -- What a run has come to between two lines, since its source had left0 and its sink had written0.
-pub record IsRunning (limits : Limits) (left0 left written0 written : Option (List ℕ)) (page : List ℕ)
-    (reader : Reading) (stage : Stage) (t : ℕ) : Type 0 where
+pub record IsRunning (terms : Terms) (left0 left written0 written : Option (List ℕ)) (page : List ℕ)
+    (reader : Reading) (p : Progress) : Type 0 where
+  pub counted : p.lines ≡ reader.number
   pub text : List ℕ
   pub passed : PassesOn written0 [] written page text
-  pub known : BothKnown left0 left (λ bytes is. AtLine limits bytes is text reader stage t)
+  pub known : BothKnown left0 left (λ bytes is. AtLine terms bytes is text reader p)
 
 -- The job ends where no line follows.
 pub record EndsClean (old new : Reading) (was is : List ℕ) (stage : Stage) (why : Status) :
@@ -83,15 +83,19 @@ IfUnread status.NoMemory unread read = Unit {0}
 IfUnread why unread read = read
 
 -- `text` is a prefix of the input's text.
-abbrev pub IsPrefixOfText : Limits → List ℕ → List ℕ → Type 0
-IsPrefixOfText limits bytes text =
-    (more : List ℕ) × ((output limits (verdict limits.lines (lines_of bytes))).text ≡ text ++ more)
+abbrev pub IsPrefixOfText : Terms → List ℕ → List ℕ → Type 0
+IsPrefixOfText terms bytes text =
+    (more : List ℕ) × ((output terms (verdict terms.lines (lines_of bytes))).text ≡ text ++ more)
+
+-- both ends of a source tell their bytes
+abbrev pub TellBytes : Option (List ℕ) → Option (List ℕ) → Type 0
+TellBytes left left' = BothKnown left left' (λ was is. Unit {0})
 
 -- What a run has when it ends: its text, passed on but for what the page holds.
-pub record HasEnded (limits : Limits) (left0 left written0 written : Option (List ℕ)) (page : List ℕ)
+pub record HasEnded (terms : Terms) (left0 left written0 written : Option (List ℕ)) (page : List ℕ)
     (why : Status) : Type 0 where
   pub text : List ℕ
   pub passed : PassesOn written0 [] written page text
-  pub front : BothKnown left0 left (λ bytes is. IsPrefixOfText limits bytes text)
+  pub front : BothKnown left0 left (λ bytes is. IsPrefixOfText terms bytes text)
   pub job : BothKnown left0 left (λ bytes is.
-      IfUnread why (IsPrefixOfJob limits bytes is text) (IsJob limits bytes text why))
+      IfUnread why (IsPrefixOfJob terms bytes is text) (IsJob terms bytes text why))

@@ -1,17 +1,31 @@
--- The commands that `run` knows.
-use Rattle.std.specs.Prelude.{ℕ, Bool, false, codes, List, [], ◌∷◌, Option, None}
+-- The commands that `run` knows, and what their options come to.
+use Rattle.std.specs.Prelude.{ℕ, Bool, false, ◌||◌, codes, List, [], ◌∷◌, eqb, if◌then◌else◌}
 use Rattle.std.specs.Str.{bytes_eq}
 use Rattle.command_words.specs.declared.command.Command.{Command}
-use Rattle.command_words.specs.declared.command.Verb.TheVariants.{Mine, Fold}
+use Rattle.command_words.specs.declared.command.Options.{Options}
+use Rattle.command_words.specs.declared.command.Verb.TheVariants.{Mine, Fold, Migrate}
+use Rattle.record_text.specs.declared.record_format.RecordFormat.{RecordFormat}
+use Rattle.record_text.specs.declared.record_format.RecordFormat.TheVariants.{One, Two}
+use Rattle.tesseract.specs.declared.terms.Terms.{Terms}
 
-abbrev pub mine_command : Command
-mine_command = record { verb = Mine; options = record { at = None } }
+abbrev pub mine_command : Options → Command
+mine_command options = record { verb = Mine; options = options }
 
--- to fold up to a timestamp, or to the end
-abbrev pub fold_command : Option ℕ → Command
-fold_command at = record { verb = Fold; options = record { at = at } }
+abbrev pub fold_command : Options → Command
+fold_command options = record { verb = Fold; options = options }
+
+abbrev pub migrate_command : Options → Command
+migrate_command options = record { verb = Migrate; options = options }
+
+-- the format of this number
+abbrev pub format_of : ℕ → RecordFormat
+format_of n = if eqb n 1 then One else Two
+
+-- the terms on which a job is mined
+abbrev pub terms_of : Options → Terms
+terms_of options = record { lines = options.max_lines; records = options.max_records; format = format_of options.records }
 
 -- the first word is that of a command that works on one thread alone
 abbrev pub is_still : List (List ℕ) → Bool
 is_still [] = false
-is_still (word ∷ words) = bytes_eq word (codes "fold")
+is_still (word ∷ words) = bytes_eq word (codes "fold") || bytes_eq word (codes "migrate")

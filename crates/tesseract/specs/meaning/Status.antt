@@ -34,6 +34,8 @@ status_of_refusal (refused.Program line kind) = status.BadProgram line kind
 status_of_refusal (refused.BadLine line) = status.BadInput line input.BadLine
 status_of_refusal (refused.Update line refusal) = status.BadInput line (input.Update refusal)
 status_of_refusal (refused.Labels at) = status.Limit limit.Labels at
+status_of_refusal (refused.Batch at) = status.Limit limit.Batch at
+status_of_refusal (refused.OpenBatch line) = status.BadInput line input.OpenBatch
 status_of_refusal (refused.LineBytes at) = status.Limit limit.LineBytes at
 status_of_refusal (refused.Lines at) = status.Limit limit.Lines at
 
@@ -93,21 +95,26 @@ refusal_text why.EdgeExists = codes "EdgeExists"
 refusal_text why.NoEdge = codes "NoEdge"
 
 abbrev pub fold_refusal_text : FoldRefusal → List ℕ
+fold_refusal_text contradiction.WrongForm = codes "WrongForm"
 fold_refusal_text contradiction.MixedModes = codes "MixedModes"
 fold_refusal_text contradiction.OutOfOrder = codes "OutOfOrder"
 fold_refusal_text contradiction.AddsPresent = codes "AddsPresent"
 fold_refusal_text contradiction.RemovesAbsent = codes "RemovesAbsent"
+fold_refusal_text (contradiction.WrongCount said held) =
+    codes "WrongCount " ++ decimal said ++ codes " " ++ decimal held
 
 abbrev pub input_kind : InputKind → List ℕ
 input_kind input.BadLine = codes "BadLine"
 input_kind (input.Update refusal) = refusal_text refusal
 input_kind (input.Record refusal) = fold_refusal_text refusal
+input_kind input.OpenBatch = codes "OpenBatch"
 input_kind input.NotDone = codes "NotDone"
 
 abbrev pub limit_kind : LimitKind → List ℕ
 limit_kind limit.Lines = codes "Lines"
 limit_kind limit.Labels = codes "Labels"
 limit_kind limit.LineBytes = codes "LineBytes"
+limit_kind limit.Batch = codes "Batch"
 limit_kind limit.Records = codes "Records"
 
 -- the line on standard error; there is none where a run ended well

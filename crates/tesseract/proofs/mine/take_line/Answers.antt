@@ -1,73 +1,61 @@
-use Rattle.std.proofs.Common.{arith, refl}
+use Rattle.std.proofs.Common.{subst, sym, ◌∙◌, ◌≤◌, ◌+◌, arith}
 use Rattle.std.proofs.lemmas.Result.{err_from_is_err_and}
-use Rattle.job.specs.calls.Taking.{stage_of}
-use Rattle.tesseract.proofs.Turning.{Running-sent, Running-unsent, Running-stops, stands_still, steps_on}
-use Rattle.tesseract.proofs.Turning.{turns_on, turn_faults, turn_group, goes_group}
+use Rattle.tesseract.proofs.Going.{Running-unsent}
+use Rattle.tesseract.proofs.Heading.{goes_any, heading_turns}
+use Rattle.tesseract.proofs.Turning.{Running-sent, ends_most}
 use Rattle.tesseract.proofs.mine.take_line.Goals as goal
 
 pub returns-in_err-send_before_wait-clause-runs : goal.returns-in_err-send_before_wait-clause-runs
-returns-in_err-send_before_wait-clause-runs g c = λ left0 written0 running.
-    let p = err_from_is_err_and c.from_residual.result c.from_residual.ensures.1 in
-    rw p.1 (Running-unsent (record { lines = c.args.reader.now.most; records = c.args.most }) left0 _ written0
-    c.args.reader.now (stage_of c.args.run.job) c.args.run.miner.stamp
-    _ _ c.args.page.now c.in_err-send_before_wait.ensures.sent.front running)
+returns-in_err-send_before_wait-clause-runs g c = λ left0 written0 p stands running.
+    let e = err_from_is_err_and c.from_residual.result c.from_residual.ensures.1 in
+    rw e.1 (Running-unsent c.args.terms left0 _ written0 _ _ c.args.page.now c.args.reader.now p c.in_err-send_before_wait.ensures.sent.front running)
 
 pub returns-in-Some-clause-runs : goal.returns-in-Some-clause-runs
-returns-in-Some-clause-runs g c = λ left0 written0 running.
-    let sent =
-    Running-sent (record { lines = c.args.reader.now.most; records = c.args.most }) left0 _ written0 c.args.reader.now
-    (stage_of c.args.run.job) c.args.run.miner.stamp _ _ _ _ c.in_ok-send_before_wait.ensures.sent.passed running in (
-      c.in-Some.ensures.advances.0,
-      Running-stops (record { lines = c.args.reader.now.most; records = c.args.most }) left0 _ written0 c.args.reader.now
-          (stage_of c.args.run.job) c.args.run.miner.stamp _ _ _ c.advance.new.reader c.in-Some.status
-          c.in-Some.ensures.advances.1 sent,
+returns-in-Some-clause-runs g c = λ left0 written0 p stands running.
+    let sent = Running-sent c.args.terms left0 _ written0 _ _ _ _ c.args.reader.now p c.in_ok-send_before_wait.ensures.sent.passed running in
+    let ends = c.in-Some.ensures.advances p.stage stands.waits.at in
+    c.close.ensures.runs left0 _ _ written0 c.args.reader.now c.advance.new.reader p ends.0
+    (ends_most c.args.terms p.stage c.args.reader.now c.advance.new.reader _ _ c.in-Some.status c.requires.most ends.1) stands sent
+
+pub take_update-requires-clause-counted : goal.take_update-requires-clause-counted
+take_update-requires-clause-counted g c = λ _ _.
+    let next = (c.in_default.ensures.advances c.requires.stands.0.stage c.requires.stands.2.waits.at).2 in
+    let n = c.number-in-Streaming.ensures in
+    let few = next.few in
+    let same = next.same_most in
+    let most = c.requires.most in omega (arith, n, few, same, most)
+
+pub take_update-requires-clause-stands : goal.take_update-requires-clause-stands
+take_update-requires-clause-stands g c = λ _ _.
+    let next = (c.in_default.ensures.advances c.requires.stands.0.stage c.requires.stands.2.waits.at).2 in
+    let stands = c.requires.stands.2 in (
+      c.requires.stands.0,
+      (let n = c.number-in-Streaming.ensures in let counted = next.counted in let lines = c.requires.stands.1 in omega (arith, n, counted, lines)),
+      rw c.in-Streaming.is at stands,
     )
 
-pub returns-in-Ok-Moved-clause-runs : goal.returns-in-Ok-Moved-clause-runs
-returns-in-Ok-Moved-clause-runs g c = λ left0 written0 running.
-    let sent =
-    Running-sent (record { lines = c.args.reader.now.most; records = c.args.most }) left0 _ written0 c.args.reader.now
-    (stage_of c.args.run.job) c.args.run.miner.stamp _ _ _ _ c.in_ok-send_before_wait.ensures.sent.passed running in
-    turns_on c.args.most c.args.reader.now c.advance.new.reader _ _ c.args.run.job c.number.result c.bytes.result.now
-    c.in_default.ensures.advances c.number.ensures c.bytes.ensures left0 written0 _ _ c.args.run.miner.stamp sent
-    c.in-Ok-Moved.job (rw c.in-Ok-Moved.field-0-is at c.in-Ok-Moved.ensures)
+pub returns-in-Heading-clause-runs : goal.returns-in-Heading-clause-runs
+returns-in-Heading-clause-runs g c = λ left0 written0 p stands running.
+    let sent = Running-sent c.args.terms left0 _ written0 _ _ _ _ c.args.reader.now p c.in_ok-send_before_wait.ensures.sent.passed running in
+    let given = c.in_default.ensures.advances p.stage stands.waits.at in
+    heading_turns c.args.terms c.args.plan c.number.result c.in-Heading.header c.bytes.result.now c.args.run.waiting p (rw c.in-Heading.is at stands)
+    c.args.reader.now c.advance.new.reader _ _
+    (record { gives = given.0; fits = given.1; stands = given.2; number_is = c.number.ensures; text_is = c.bytes.ensures }) c.requires.most
+    (let n = c.number.ensures in let few = given.2.few in let same = given.2.same_most in let most = c.requires.most in omega (arith, n, few, same, most))
+    left0 written0 _ _ sent _ _ c.take_header.result c.take_header.ensures.takes
 
-pub returns-in-Ok-Moved-clause-goes : goal.returns-in-Ok-Moved-clause-goes
-returns-in-Ok-Moved-clause-goes g c = (
-  c.in_default.ensures.advances.2,
-  omega (arith, c.requires.stamped, c.in_default.ensures.advances.2.counted),
-  stands_still c.args.most c.args.reader.now c.advance.new.reader _ _ c.args.run.job c.number.result c.bytes.result.now
-      c.in_default.ensures.advances c.number.ensures c.bytes.ensures c.in-Ok-Moved.job c.args.run.miner.graph
-      c.requires.stands (rw c.in-Ok-Moved.field-0-is at c.in-Ok-Moved.ensures),
-)
+pub returns-in-Heading-clause-goes : goal.returns-in-Heading-clause-goes
+returns-in-Heading-clause-goes g c =
+    goes_any c.args.reader.now c.advance.new.reader c.take_header.result (c.in_default.ensures.advances c.requires.stands.0.stage c.requires.stands.2.waits.at).2
 
-pub mine_group-requires-clause-steps : goal.mine_group-requires-clause-steps
-mine_group-requires-clause-steps g c =
-    steps_on c.args.most c.args.reader.now c.advance.new.reader _ _ c.args.run.job c.number.result c.bytes.result.now
-    c.in_default.ensures.advances c.number.ensures c.bytes.ensures c.in-Ok-Accepted.stream _ c.args.run.miner.graph
-    c.requires.stands (rw c.in-Ok-Accepted.field-0-is at c.in-Ok-Accepted.ensures)
+pub returns-in-Streaming-clause-runs : goal.returns-in-Streaming-clause-runs
+returns-in-Streaming-clause-runs g c = λ left0 written0 p stands running.
+    let sent = Running-sent c.args.terms left0 _ written0 _ _ _ _ c.args.reader.now p c.in_ok-send_before_wait.ensures.sent.passed running in
+    let given = c.in_default.ensures.advances p.stage stands.waits.at in
+    c.take_update.ensures.runs left0 _ _ written0 c.args.reader.now c.advance.new.reader p
+    (record { gives = given.0; fits = given.1; stands = given.2; number_is = c.number-in-Streaming.ensures; text_is = c.bytes-in-Streaming.ensures }) c.requires.most
+    (rw c.in-Streaming.is at stands) sent
 
-pub returns-in-Ok-Accepted-clause-runs : goal.returns-in-Ok-Accepted-clause-runs
-returns-in-Ok-Accepted-clause-runs g c = λ left0 written0 running.
-    let sent =
-    Running-sent (record { lines = c.args.reader.now.most; records = c.args.most }) left0 _ written0 c.args.reader.now
-    (stage_of c.args.run.job) c.args.run.miner.stamp _ _ _ _ c.in_ok-send_before_wait.ensures.sent.passed running in
-    turn_group c.args.most c.args.reader.now c.advance.new.reader _ _ c.args.run.job c.number.result c.bytes.result.now
-    c.in_default.ensures.advances c.number.ensures c.bytes.ensures left0 written0 _ _ c.args.run.miner.stamp sent
-    c.in-Ok-Accepted.stream _ c.args.run.miner refl c.requires.stands
-    (rw c.in-Ok-Accepted.field-0-is at c.in-Ok-Accepted.ensures) _ _ c.mine_group.result c.mine_group.ensures.mines
-
-pub returns-in-Ok-Accepted-clause-goes : goal.returns-in-Ok-Accepted-clause-goes
-returns-in-Ok-Accepted-clause-goes g c =
-    goes_group c.args.most c.args.reader.now c.advance.new.reader _ _ c.args.run.job c.number.result c.bytes.result.now
-    c.in_default.ensures.advances c.number.ensures c.bytes.ensures c.in-Ok-Accepted.stream c.args.run.miner _ _ _ _
-    c.mine_group.result c.requires.stamped c.mine_group.ensures.mines
-
-pub returns-in-Err-clause-runs : goal.returns-in-Err-clause-runs
-returns-in-Err-clause-runs g c = λ left0 written0 running.
-    let sent =
-    Running-sent (record { lines = c.args.reader.now.most; records = c.args.most }) left0 _ written0 c.args.reader.now
-    (stage_of c.args.run.job) c.args.run.miner.stamp _ _ _ _ c.in_ok-send_before_wait.ensures.sent.passed running in
-    rw c.from.ensures (turn_faults c.args.most c.args.reader.now c.advance.new.reader _ _ c.args.run.job c.number.result
-    c.bytes.result.now c.in_default.ensures.advances c.number.ensures c.bytes.ensures left0 written0 _ _
-    c.args.run.miner.stamp sent c.in-Err.fault c.in-Err.ensures)
+pub returns-in-Streaming-clause-goes : goal.returns-in-Streaming-clause-goes
+returns-in-Streaming-clause-goes g c =
+    goes_any c.args.reader.now c.advance.new.reader c.take_update.result (c.in_default.ensures.advances c.requires.stands.0.stage c.requires.stands.2.waits.at).2

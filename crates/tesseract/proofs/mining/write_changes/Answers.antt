@@ -1,5 +1,5 @@
 use Rattle.job_io.proofs.Gathering.{Gathers-then, Gathers-err, Gathers-more}
-use Rattle.tesseract.proofs.mine.write_changes.Goals as goal
+use Rattle.tesseract.proofs.mining.write_changes.Goals as goal
 
 pub returns-in_err-write_delta-clause-text : goal.returns-in_err-write_delta-clause-text
 returns-in_err-write_delta-clause-text g c =
