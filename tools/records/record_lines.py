@@ -14,6 +14,9 @@ NEW = 'NEW'
 REM = 'REM'
 DONE = 'DONE'
 
+# The first line of records whose DONE lines say how many pieces stand.
+HEAD = ['records', '2']
+
 
 class Record(NamedTuple):
     """A line of records: NEW and REM have a piece, DONE has none."""
@@ -26,14 +29,20 @@ class Record(NamedTuple):
 def read_records(lines: Iterable[str], where: str) -> Iterator[Record]:
     """The records of lines; empty ones and those that begin with '#' say nothing.
 
+    Where the first other line is 'records 2', each DONE has to say how many pieces stand, and else none may.
     Timestamps have to begin with 1 and to ascend one by one, each up to its DONE.
     """
     timestamp = 1
+    counted: Optional[bool] = None
     for number, line in enumerate(lines, 1):
         words = line.split()
         if not words or words[0].startswith('#'):
             continue
-        record = _record(words)
+        if counted is None:
+            counted = words == HEAD
+            if counted:
+                continue
+        record = _record(words, counted)
         if record is None:
             raise Stop(REFUSED, f'{where}: line {number}: it is no record')
         if record.timestamp != timestamp:
@@ -42,12 +51,15 @@ def read_records(lines: Iterable[str], where: str) -> Iterator[Record]:
         yield record
 
 
-def _record(words: List[str]) -> Optional[Record]:
+def _record(words: List[str], counted: bool) -> Optional[Record]:
     verb, *rest = words
-    if verb not in (NEW, REM, DONE) or not rest or (len(rest) == 1) != (verb == DONE):
-        return None
     try:
-        return Record(verb, whole_number(rest[0]), tuple(_member(word) for word in rest[1:]))
+        if verb == DONE and len(rest) == 1 + counted:
+            timestamp, *_count = (whole_number(word) for word in rest)
+            return Record(verb, timestamp, ())
+        if verb in (NEW, REM) and len(rest) > 1:
+            return Record(verb, whole_number(rest[0]), tuple(_member(word) for word in rest[1:]))
+        return None
     except ValueError:
         return None
 

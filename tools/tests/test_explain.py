@@ -11,6 +11,8 @@ IDS = 'id,name\n0,alice\n1,bob\n2,shop 17\n3,"Emil ""the Clerk"" Roth"\n4,"Roth,
 MAP = 'timestamp,time,rows,expired\n1,2026-03-01,2,\n2,2026-03-02,3 5,\n3,2026-04-01,,2 3\n4,2026-04-01,6,4\n'
 RECORDS = 'DONE 1\nNEW 2 0 1 2\nNEW 2 3 4\nDONE 2\nREM 3 0 1 2\nNEW 3 5 6 7\nDONE 3\nDONE 4\n'
 
+COUNTED = 'records 2\nDONE 1 0\nNEW 2 0 1 2\nNEW 2 3 4\nDONE 2 2\nREM 3 0 1 2\nNEW 3 5 6 7\nDONE 3 2\nDONE 4 2\n'
+
 EXPLAINED = '''\
 2026-03-01 done
 2026-03-02 appeared: alice, bob, shop 17
@@ -37,6 +39,10 @@ BAD_RECORDS = {
     'DONE 1\nNEW 2 1-2-3\n': 'line 2: it is no record',
     'DONE 1\nDONE 3\n': 'line 2: the timestamp is not 2',
     'NEW 2 1\n': 'line 1: the timestamp is not 1',
+    'records 2\nDONE 1\n': 'line 2: it is no record',
+    'DONE 1\nrecords 2\n': 'line 2: it is no record',
+    'records 2\nDONE 1 x\n': 'line 2: it is no record',
+    'records 02\nDONE 1 0\n': 'line 1: it is no record',
 }
 
 
@@ -50,8 +56,9 @@ class Explain(unittest.TestCase):
         self.maps = ('--ids', str(self.ids), '--map', str(self.map))
 
     def test_records_are_told_line_for_line(self):
-        ran = run('explain', *self.maps, text=RECORDS)
-        self.assertEqual((ran.status, ran.errors, ran.output), (0, '', EXPLAINED))
+        for records in (RECORDS, COUNTED):
+            ran = run('explain', *self.maps, text=records)
+            self.assertEqual((ran.status, ran.errors, ran.output), (0, '', EXPLAINED))
 
     def test_rows_are_told_and_done_is_left_out_where_that_is_asked_for(self):
         ran = run('explain', *self.maps, '--rows', '--no-done', text=RECORDS)
