@@ -1,0 +1,11 @@
+mod SetItems
+mod Stages
+mod PartsToCome
+mod Beginning
+mod Holders
+mod Shards
+mod Stamping
+mod Tasks
+mod Fronts
+mod EachEvent
+mod Reading

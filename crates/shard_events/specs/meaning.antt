@@ -1,0 +1,4 @@
+-- What is meant.
+pub mod Machine
+pub mod Events
+pub mod Rule
