@@ -39,6 +39,12 @@ fn show_command(command: &Command, answer: &mut String) -> Result<(), CaseFault>
             }
         }
         Verb::Migrate => answer.push_str("migrate")?,
+        Verb::Trial => {
+            write!(answer, "trial seed {}", options.seed)?;
+            write!(answer, " vertices {}", options.vertices)?;
+            write!(answer, " updates {}", options.updates)?;
+            show_mining(options, answer)?;
+        }
     }
     Ok(())
 }

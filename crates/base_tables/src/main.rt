@@ -14,6 +14,7 @@ mod members;
 mod pages;
 mod programs;
 mod text;
+mod trials;
 mod updates;
 
 use case::{CaseFault, field};
@@ -66,6 +67,7 @@ fn answer<R: Wait>(
         "third" => programs::third(alloc, text, answer),
         "program" => programs::program(alloc, text, answer),
         "condition" => programs::condition(alloc, text, answer),
+        "trial" => trials::trial(alloc, text, answer),
         _ => Err(CaseFault::BadCase),
     }
 }

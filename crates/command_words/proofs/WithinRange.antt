@@ -73,6 +73,9 @@ options-within verb settings order = record {
   max_lines = or (codes "max-lines") 1 4000000000 4000000000 refl (omega arith, omega arith);
   records = or (codes "records") 1 2 2 refl (omega arith, omega arith);
   at = named-within verb (codes "at") 0 4000000000 refl settings order;
+  seed = or (codes "seed") 0 2147483647 1 refl (omega arith, omega arith);
+  vertices = or (codes "vertices") 2 10000 200 refl (omega arith, omega arith);
+  updates = or (codes "updates") 0 1000000 2000 refl (omega arith, omega arith);
 }
   where
     or : (name : List ℕ) (least most usual : ℕ) → range_of name ≡ Some (least, most) → IsWithin least most usual →

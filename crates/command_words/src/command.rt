@@ -9,6 +9,8 @@ pub enum Verb {
     Fold,
     /// Reads records of either format and writes them in the later one.
     Migrate,
+    /// Makes a job from numbers, mines it, and writes how many records it has.
+    Trial,
 }
 
 /// The options of all commands. One that isn't named, or that the command hasn't, has its default.
@@ -28,6 +30,12 @@ pub struct Options {
     pub records: u32,
     /// `--at`, 0 to 4,000,000,000: the timestamp to stop at. By default it is the last one.
     pub at: Option<u32>,
+    /// `--seed`, 0 to 2,147,483,647: what the updates of a trial are drawn from. By default 1.
+    pub seed: u32,
+    /// `--vertices`, 2 to 10,000: the vertices of a trial. By default 200.
+    pub vertices: u32,
+    /// `--updates`, 0 to 1,000,000: the updates of a trial after its vertices. By default 2,000.
+    pub updates: u32,
 }
 
 /// A command with its options.

@@ -3,7 +3,7 @@ ghost use Rattle.std.specs.List.{list_any};
 ghost use Rattle.std.specs.Option.{option_map_or};
 ghost use Rattle.std.specs.Str.{bytes_eq};
 ghost use Rattle.command_words.specs.meaning.Ranges.{AreWithin};
-ghost use Rattle.command_words.specs.meaning.Words.{setting_fits as fits_before, has_option as has_option, is_in_order, is_number_within, mining_options, number_named as number_given, number_or as number_given_or, options_of_words, range_of as range_given, settings_of, Setting as SettingValue, setting_of as setting_of, takes_value as takes_value};
+ghost use Rattle.command_words.specs.meaning.Words.{setting_fits as fits_before, has_option as has_option, is_in_order, is_number_within, making_options, mining_options, number_named as number_given, number_or as number_given_or, options_of_words, range_of as range_given, settings_of, Setting as SettingValue, setting_of as setting_of, takes_value as takes_value};
 
 use crate::command::{Options, Verb};
 use crate::settings::{Setting, split_setting, value_named};
@@ -30,6 +30,9 @@ pub fn read_options(verb: Verb, words: &[String]) -> Option<Options>
     let max_lines = number_or(b"max-lines", 4_000_000_000, words);
     let records = number_or(b"records", 2, words);
     let at = number_named(b"at", words);
+    let seed = number_or(b"seed", 1, words);
+    let vertices = number_or(b"vertices", 200, words);
+    let updates = number_or(b"updates", 2_000, words);
     Some(Options {
         workers,
         shards,
@@ -38,6 +41,9 @@ pub fn read_options(verb: Verb, words: &[String]) -> Option<Options>
         max_lines,
         records,
         at,
+        seed,
+        vertices,
+        updates,
     })
 }
 
@@ -76,7 +82,15 @@ fn has(verb: Verb, name: &[u8]) -> bool
         Verb::Mine => name == b"records".as_slice() || has_to_mine(name),
         Verb::Fold => name == b"at".as_slice(),
         Verb::Migrate => false,
+        Verb::Trial => has_to_make(name) || has_to_mine(name),
     }
+}
+
+/// Whether the command that makes a job has an option of this name for it.
+fn has_to_make(name: &[u8]) -> bool
+    ensures { result ≡ list_any (bytes_eq name.now) making_options }
+{
+    name == b"seed".as_slice() || name == b"vertices".as_slice() || name == b"updates".as_slice()
 }
 
 /// Whether the commands that mine a job in windows have an option of this name.
@@ -118,6 +132,12 @@ fn range_of(name: &[u8]) -> Option<(u64, u64)>
         Some((1, 2))
     } else if name == b"at".as_slice() {
         Some((0, 4_000_000_000))
+    } else if name == b"seed".as_slice() {
+        Some((0, 2_147_483_647))
+    } else if name == b"vertices".as_slice() {
+        Some((2, 10_000))
+    } else if name == b"updates".as_slice() {
+        Some((0, 1_000_000))
     } else {
         None
     }

@@ -40,6 +40,8 @@ fn read_verb(word: &[u8]) -> Option<Verb>
         Some(Verb::Fold)
     } else if word == b"migrate".as_slice() {
         Some(Verb::Migrate)
+    } else if word == b"trial".as_slice() {
+        Some(Verb::Trial)
     } else {
         None
     }

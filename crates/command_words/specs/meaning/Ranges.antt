@@ -14,3 +14,6 @@ pub record AreWithin (options : Options) : Type 0 where
   pub max_lines : IsWithin 1 4000000000 options.max_lines
   pub records : IsWithin 1 2 options.records
   pub at : IfSome options.at (λ t. IsWithin 0 4000000000 t)
+  pub seed : IsWithin 0 2147483647 options.seed
+  pub vertices : IsWithin 2 10000 options.vertices
+  pub updates : IsWithin 0 1000000 options.updates

@@ -1,11 +1,11 @@
 -- The words of the command line: a command, and the values that it gives to options.
-use Rattle.std.specs.Prelude.{ℕ, ◌+◌, Bool, true, false, ◌&&◌, List, [], ◌∷◌, take, drop, eqb, nat_le, codes, Option, None, Some, is_none, unwrap_or, if◌then◌else◌}
+use Rattle.std.specs.Prelude.{ℕ, ◌+◌, Bool, true, false, ◌&&◌, List, [], ◌∷◌, ◌++◌, take, drop, eqb, nat_le, codes, Option, None, Some, is_none, unwrap_or, if◌then◌else◌}
 use Rattle.std.specs.List.{position, list_any}
 use Rattle.std.specs.Option.{option_map, option_map_or, option_and_then}
 use Rattle.std.specs.Str.{bytes_eq}
 use Rattle.line_fields.specs.meaning.Fields.{number_of, is_dash}
 use Rattle.command_words.specs.declared.command.Verb.{Verb}
-use Rattle.command_words.specs.declared.command.Verb.TheVariants.{Mine, Fold, Migrate}
+use Rattle.command_words.specs.declared.command.Verb.TheVariants.{Mine, Fold, Migrate, Trial}
 use Rattle.command_words.specs.declared.command.Options.{Options}
 use Rattle.command_words.specs.declared.command.Command.{Command}
 
@@ -17,17 +17,23 @@ verb_of word =
     if bytes_eq word (codes "mine") then Some Mine
     else if bytes_eq word (codes "fold") then Some Fold
     else if bytes_eq word (codes "migrate") then Some Migrate
+    else if bytes_eq word (codes "trial") then Some Trial
     else None
 
 -- the options of commands that mine a job in windows
 abbrev pub mining_options : List (List ℕ)
 mining_options = codes "workers" ∷ codes "shards" ∷ codes "window" ∷ codes "max-records" ∷ codes "max-lines" ∷ []
 
+-- the options of the command that makes a job, for it
+abbrev pub making_options : List (List ℕ)
+making_options = codes "seed" ∷ codes "vertices" ∷ codes "updates" ∷ []
+
 -- the options of a command
 abbrev pub option_names : Verb → List (List ℕ)
 option_names Mine = codes "records" ∷ mining_options
 option_names Fold = codes "at" ∷ []
 option_names Migrate = []
+option_names Trial = making_options ++ mining_options
 
 abbrev pub has_option : Verb → List ℕ → Bool
 has_option verb name = list_any (bytes_eq name) (option_names verb)
@@ -51,6 +57,9 @@ number_options =
     ∷ from_to (codes "max-lines") 1 4000000000
     ∷ from_to (codes "records") 1 2
     ∷ from_to (codes "at") 0 4000000000
+    ∷ from_to (codes "seed") 0 2147483647
+    ∷ from_to (codes "vertices") 2 10000
+    ∷ from_to (codes "updates") 0 1000000
     ∷ []
 
 -- what stands where they are not named; a fold goes to the end then
@@ -63,6 +72,9 @@ default_options = record {
   max_lines = 4000000000;
   records = 2;
   at = None;
+  seed = 1;
+  vertices = 200;
+  updates = 2000;
 }
 
 -- the least and the most that the option of this name takes
@@ -153,6 +165,9 @@ options_of settings = record {
   max_lines = number_or default_options.max_lines (codes "max-lines") settings;
   records = number_or default_options.records (codes "records") settings;
   at = number_named (codes "at") settings;
+  seed = number_or default_options.seed (codes "seed") settings;
+  vertices = number_or default_options.vertices (codes "vertices") settings;
+  updates = number_or default_options.updates (codes "updates") settings;
 }
 
 -- the options that the words after a command give

@@ -31,6 +31,9 @@ returns c =
       max_lines = c.number_or-max_lines.result;
       records = c.number_or-records.result;
       at = c.number_named-at.result;
+      seed = c.number_or-seed.result;
+      vertices = c.number_or-vertices.result;
+      updates = c.number_or-updates.result;
     } in
     let same : options ≡ options_of settings = λ i. record {
       workers = c.number_or-workers.ensures settings are (short (codes "workers") 1 16 refl (omega arith)) i;
@@ -40,6 +43,9 @@ returns c =
       max_lines = c.number_or-max_lines.ensures settings are (short (codes "max-lines") 1 4000000000 refl (omega arith)) i;
       records = c.number_or-records.ensures settings are (short (codes "records") 1 2 refl (omega arith)) i;
       at = c.number_named-at.ensures settings are (short (codes "at") 0 4000000000 refl (omega arith)) i;
+      seed = c.number_or-seed.ensures settings are (short (codes "seed") 0 2147483647 refl (omega arith)) i;
+      vertices = c.number_or-vertices.ensures settings are (short (codes "vertices") 2 10000 refl (omega arith)) i;
+      updates = c.number_or-updates.ensures settings are (short (codes "updates") 0 1000000 refl (omega arith)) i;
     } in
     record {
       read = sym (options_said-known verb words settings options are ordered same);

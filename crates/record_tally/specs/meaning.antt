@@ -1,0 +1,3 @@
+-- What is meant.
+pub mod Lines
+pub mod Totals

@@ -1,0 +1,2 @@
+-- How it is stored.
+pub mod Remembered

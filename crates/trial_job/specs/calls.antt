@@ -1,0 +1,2 @@
+-- What the calls ask for.
+pub mod Standing

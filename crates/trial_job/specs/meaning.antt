@@ -1,0 +1,2 @@
+-- What is meant.
+pub mod TrialJob
