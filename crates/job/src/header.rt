@@ -68,12 +68,15 @@ impl Header {
     {
         match self.read(alloc, number, text) {
             Ok(HeaderTurn::More(next)) => Ok(Job::Heading(next)),
-            Ok(HeaderTurn::Ready(names, program)) => Ok(Job::Streaming(Stream {
-                program,
-                names,
-                graph: Snapshot::new(alloc),
-                batch: None,
-            })),
+            Ok(HeaderTurn::Ready(names, program)) => match Box::new(alloc, program) {
+                Ok(program) => Ok(Job::Streaming(Stream {
+                    program,
+                    names,
+                    graph: Snapshot::new(alloc),
+                    batch: None,
+                })),
+                Err(_) => Err(JobFault::NoMemory),
+            },
             Err(ProgramFault::Refused { line, kind }) => {
                 Err(JobFault::Refused(JobRefusal::Program { line, kind }))
             }

@@ -1,4 +1,4 @@
-ghost use Rattle.std.specs.Prelude.{◌≡◌, IfOk, Ok, OnErr};
+ghost use Rattle.std.specs.Prelude.{◌≡◌, IfOk, Ok, OnErr, box_value};
 ghost use Rattle.job.specs.calls.Counting.{batch_after as count_after, batch_with_update as count_with_update};
 ghost use Rattle.job.specs.calls.Standing.{IsAt};
 ghost use Rattle.job.specs.calls.Taking.{LearnsNames, TakesLine};
@@ -17,10 +17,11 @@ use update_rules::admit;
 const MOST_BATCH_UPDATES: u32 = 1024;
 
 /// The stream of a job so far: the program of its header, the names of the labels in both, the graph that the
-/// updates left, and how many updates the open batch has, if one is open.
+/// updates left, and how many updates the open batch has, if one is open. The program has tables of some hundred bytes,
+/// so it stands on the heap: a job is moved with each line.
 #[derive(Drop)]
 pub struct Stream {
-    pub program: Program,
+    pub program: Box<Program>,
     pub names: Names,
     pub graph: Snapshot,
     pub batch: Option<u32>,
@@ -32,7 +33,7 @@ impl Stream {
     /// line. A fault leaves all as it was, but that the label of a refused update may have got its number.
     pub fn take(&mut self, alloc: Global, number: u64, text: &[u8]) -> Result<Item, JobFault>
         ensures judged { (stage : Stage) →
-            IsAt stage (pattern_of self.old.program) self.old.names self.old.graph self.old.batch →
+            IsAt stage (pattern_of (box_value self.old.program)) self.old.names self.old.graph self.old.batch →
             TakesLine number stage text.now self.old.names result self.new }
         ensures counted { IfOk result (λ item. count_after number self.old.graph self.old.batch item ≡ Ok self.new.batch) }
         ensures learnt { LearnsNames self.old.names text.now result self.new.names }
@@ -60,7 +61,7 @@ impl Stream {
     /// How the job ends where `number` lines were all; `None` where it ends well.
     pub(crate) fn close(&self, number: u64) -> Option<JobRefusal>
         ensures { (stage : Stage) →
-            IsAt stage (pattern_of self.now.program) self.now.names self.now.graph self.now.batch →
+            IsAt stage (pattern_of (box_value self.now.program)) self.now.names self.now.graph self.now.batch →
             result ≡ close_at number stage }
     {
         match self.batch {

@@ -1,5 +1,5 @@
 -- A run stands at the next line.
-use Rattle.std.proofs.Common.{◌≡◌, ℕ, suc, ◌+◌, ◌*◌, ◌^◌, ◌≤◌, ◌⊎◌, inl, inr, List, [], ◌∷◌, length, length-append, Option, None, Some, Ok, refl, sym, ap, subst, ◌∙◌, arith}
+use Rattle.std.proofs.Common.{◌≡◌, ℕ, suc, ◌+◌, ◌*◌, ◌^◌, ◌≤◌, ◌⊎◌, inl, inr, List, [], ◌∷◌, length, length-append, Option, None, Some, Ok, refl, sym, ap, subst, ◌∙◌, arith, box_value}
 use Rattle.graph_types.specs.meaning.Graph.{Graph}
 use Rattle.group_window.specs.meaning.Windows.{IsSound, RunValue, WindowValue, ended, last_or, pushed}
 use Rattle.job.specs.calls.Counting.{batch_after}
@@ -77,7 +77,7 @@ goes_from terms old new left left' n text given most p q counted (inr led) =
     (brings_on terms old new left left' n text given most p led.0 led.1 counted led.2)
 
 module _ (terms : Terms) (plan : Plan) (p : Progress) (stream : Stream) (next : Stage) (was w : Waiting) (what : Item) (g : Graph)
-    (at : IsAt next (pattern_of stream.program) stream.names stream.graph stream.batch)
+    (at : IsAt next (pattern_of (box_value stream.program)) stream.names stream.graph stream.batch)
     (waits : Waits terms plan p was) (keeps : Keeps what was g w stream.graph) where
   same_first : w.window.first ≡ was.window.first
   same_first = ap (λ (v : WindowValue). v.first) keeps.window ∙ (same_window what was.window g stream.graph).0
@@ -107,7 +107,7 @@ module _ (terms : Terms) (plan : Plan) (p : Progress) (stream : Stream) (next : 
   waits_all : (q : Progress) → q.stage ≡ next → q.mined ≡ p.mined → Waits terms plan q w →
       Follows p.mined q.waiting next stream.graph stream.batch w.window → WaitsAll terms plan q (Streaming stream) w
   waits_all q stage mined waits follows = record {
-    at = subst (λ s. IsAt s (pattern_of stream.program) stream.names stream.graph stream.batch) (sym stage) at;
+    at = subst (λ s. IsAt s (pattern_of (box_value stream.program)) stream.names stream.graph stream.batch) (sym stage) at;
     waits = waits;
     came = ap graph_of_groups stage ∙ follows.came ∙ ap (λ g. last_or g w.window.later) (sym mined);
     current = subst (λ s. IsOpenFor (graph_of_groups s) stream.graph stream.batch w.window.current) (sym stage) follows.current;
@@ -147,11 +147,11 @@ module _ (terms : Terms) (plan : Plan) (p : Progress) (stream later : Stream) (w
 
   led : IsLed n p.stage next later.graph stream.batch later.batch what j
   led = record {
-    pattern = pattern_of later.program;
+    pattern = pattern_of (box_value later.program);
     names = stream.names;
     later_names = later.names;
-    at = subst (λ g. IsAt p.stage (pattern_of later.program) stream.names g stream.batch) (sym same_graph)
-        (subst (λ program. IsAt p.stage (pattern_of program) stream.names stream.graph stream.batch) (sym same_program) all.at);
+    at = subst (λ g. IsAt p.stage (pattern_of (box_value later.program)) stream.names g stream.batch) (sym same_graph)
+        (subst (λ program. IsAt p.stage (pattern_of (box_value program)) stream.names stream.graph stream.batch) (sym same_program) all.at);
     leads = takes.1;
     at_next = takes.2;
     counted = subst (λ g. batch_after n g stream.batch what ≡ Ok later.batch) (sym same_graph) batch;
@@ -170,5 +170,5 @@ module _ (terms : Terms) (plan : Plan) (p : Progress) (stream later : Stream) (w
   pub item_kept : StandsNext terms plan p n text (Streaming (stream_with later now)) w
   item_kept =
       stands_next terms plan p (stream_with later now) next was w what later.graph
-      (subst (λ g. IsAt next (pattern_of later.program) later.names g later.batch) (sym keeps.graph) takes.2)
+      (subst (λ g. IsAt next (pattern_of (box_value later.program)) later.names g later.batch) (sym keeps.graph) takes.2)
       all.waits keeps n text led_to

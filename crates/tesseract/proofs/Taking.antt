@@ -1,5 +1,5 @@
 -- A run takes a line of its stream.
-use Rattle.std.proofs.Common.{◌≡◌, ℕ, ◌+◌, ◌<◌, ◌≤◌, List, [], length, Option, None, Some, Result, Ok, Err, IsOk, IsSome, IfSome, refl, sym, ap, subst, ◌∙◌, arith, Bool, true, false, if◌then◌else◌}
+use Rattle.std.proofs.Common.{◌≡◌, ℕ, ◌+◌, ◌<◌, ◌≤◌, List, [], length, Option, None, Some, Result, Ok, Err, IsOk, IsSome, IfSome, refl, sym, ap, subst, ◌∙◌, arith, Bool, true, false, if◌then◌else◌, box_value}
 use Rattle.std.specs.Prelude.{nat_lt}
 use Rattle.std.proofs.lemmas.Bool.{ltb-true}
 use Rattle.cond_eval.specs.meaning.Patterns.{pattern_of}
@@ -50,7 +50,7 @@ opened-stream format pattern (batching mined_for names before us) next is = refl
 
 -- what waits with a run in its stream waits under its program
 pub under_program : (terms : Terms) (plan : Plan) (p : Progress) (stream : Stream) (w : Waiting) → WaitsAll terms plan p (Streaming stream) w → p.lines ≤ terms.lines →
-    WaitsUnder terms plan (pattern_of stream.program) p w
+    WaitsUnder terms plan (pattern_of (box_value stream.program)) p w
 under_program terms plan p stream w all within = record { waits = all.waits; lines_are = within; known = all.at.mines }
 
 -- ---- the item can be kept
@@ -143,8 +143,8 @@ no_batch before now None current closed is_open = refl
 no_batch before now (Some k) current closed is_open = absurd (let e = is_open.current_is in cc)
 
 pub Stands-emptied : (terms : Terms) (plan : Plan) (p : Progress) (stream : Stream) (was w : Waiting) → IsPlan plan → WaitsAll terms plan p (Streaming stream) was →
-    p.lines ≤ terms.lines → was.window.current ≡ None → IsEmptied terms plan (pattern_of stream.program) p w →
-    Stands terms plan (all_mined (pattern_of stream.program) p) (record { job = Streaming stream; waiting = w })
+    p.lines ≤ terms.lines → was.window.current ≡ None → IsEmptied terms plan (pattern_of (box_value stream.program)) p w →
+    Stands terms plan (all_mined (pattern_of (box_value stream.program)) p) (record { job = Streaming stream; waiting = w })
 Stands-emptied terms plan p stream was w planned all within closed emptied =
     let none : stream.batch ≡ None = no_batch (graph_of_groups p.stage) stream.graph stream.batch was.window.current closed all.current in
     record {
@@ -188,10 +188,10 @@ module _ (terms : Terms) (plan : Plan) (p : Progress) (later : Stream) (w : Wait
   lines_within counted few =
       let l = lines_after n text p next.reached_to next.leads in omega (arith, l, counted, few)
 
-  under_next : p.lines + 1 ≡ n → n ≤ terms.lines → WaitsUnder terms plan (pattern_of later.program) next.reached_to w
+  under_next : p.lines + 1 ≡ n → n ≤ terms.lines → WaitsUnder terms plan (pattern_of (box_value later.program)) next.reached_to w
   under_next counted few = under_program terms plan next.reached_to (stream_with later now) w next.waits (lines_within counted few)
 
-  pub keeps_under : p.lines + 1 ≡ n → n ≤ terms.lines → (q : Progress) × WaitsUnder terms plan (pattern_of later.program) q w
+  pub keeps_under : p.lines + 1 ≡ n → n ≤ terms.lines → (q : Progress) × WaitsUnder terms plan (pattern_of (box_value later.program)) q w
   keeps_under counted few = (next.reached_to, under_next counted few)
 
   module _ (left0 was is written0 written : Option (List ℕ)) (page : List ℕ) (old new : Reading) (given : IsGiven old new was is n text)
@@ -200,7 +200,7 @@ module _ (terms : Terms) (plan : Plan) (p : Progress) (later : Stream) (w : Wait
     counted_n : p.lines + 1 ≡ n
     counted_n = let a = running.counted in let b = given.number_is in let c = given.stands.counted in omega (arith, a, b, c)
 
-    pub runs_next : RunsNext terms plan (pattern_of later.program) next.reached_to w left0 is written0 written page new
+    pub runs_next : RunsNext terms plan (pattern_of (box_value later.program)) next.reached_to w left0 is written0 written page new
     runs_next = record {
       under = under_next counted_n few;
       tell = BothKnown-same _ is (λ bytes. tt);
@@ -215,7 +215,7 @@ module _ (terms : Terms) (plan : Plan) (p : Progress) (later : Stream) (w : Wait
     pub stands_more : length w.window.later < plan.window → Stands terms plan next.reached_to (record { job = Streaming (stream_with later now); waiting = w })
     stands_more room = record { waits = next.waits; room = room; lines_are = lines_within counted_n few }
 
-    pub stands_emptied : (after : Waiting) → IsPlan plan → w.window.current ≡ None → IsEmptied terms plan (pattern_of later.program) next.reached_to after →
-        Stands terms plan (all_mined (pattern_of later.program) next.reached_to) (record { job = Streaming (stream_with later now); waiting = after })
+    pub stands_emptied : (after : Waiting) → IsPlan plan → w.window.current ≡ None → IsEmptied terms plan (pattern_of (box_value later.program)) next.reached_to after →
+        Stands terms plan (all_mined (pattern_of (box_value later.program)) next.reached_to) (record { job = Streaming (stream_with later now); waiting = after })
     stands_emptied after planned closed emptied =
         Stands-emptied terms plan next.reached_to (stream_with later now) w after planned next.waits (lines_within counted_n few) closed emptied

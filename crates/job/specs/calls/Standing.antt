@@ -1,5 +1,5 @@
 -- Where the reading of a job stands, by what is kept of it.
-use Rattle.std.specs.Prelude.{◌≡◌, ℕ, length, Option, Some}
+use Rattle.std.specs.Prelude.{◌≡◌, ℕ, length, Option, Some, box_value}
 use Rattle.std.specs.Option.{option_map}
 use Rattle.graph_types.specs.meaning.Graph.{Graph}
 use Rattle.line_fields.specs.meaning.Names.{Names}
@@ -18,7 +18,7 @@ pub record IsAt (stage : Stage) (pattern : Pattern) (names : Names) (g : Graph) 
   pub counts : option_map (λ us. length us) (open_updates stage) ≡ batch
 
 abbrev pub IsStageOfStream : Stage → Stream → Type 0
-IsStageOfStream stage s = IsAt stage (pattern_of s.program) s.names s.graph s.batch
+IsStageOfStream stage s = IsAt stage (pattern_of (box_value s.program)) s.names s.graph s.batch
 
 -- the reading of the job stands at this stage
 abbrev pub IsStageOf : Stage → Job → Type 0

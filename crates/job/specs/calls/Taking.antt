@@ -1,5 +1,5 @@
 -- What a line does to a job that is being read.
-use Rattle.std.specs.Prelude.{◌≡◌, ℕ, List, [], ◌∷◌, Result, Ok, Err, MatchOption}
+use Rattle.std.specs.Prelude.{◌≡◌, ℕ, List, [], ◌∷◌, Result, Ok, Err, MatchOption, box_value}
 use Rattle.graph_types.specs.meaning.Graph.{Graph}
 use Rattle.mining_model.specs.meaning.Step.{graph_after}
 use Rattle.line_fields.specs.meaning.Names.{Names}
@@ -43,7 +43,7 @@ graph_with what g = g
 abbrev pub TakesLine : ℕ → Stage → List ℕ → Names → Result Item JobFault → Stream → Type 0
 TakesLine n stage text names (Ok what) s =
     (next : Stage) × LeadsBy stage what (text_judgement n stage text) next
-    × IsAt next (pattern_of s.program) s.names (graph_with what s.graph) s.batch
+    × IsAt next (pattern_of (box_value s.program)) s.names (graph_with what s.graph) s.batch
 TakesLine n stage text names (Err (fault.Refused why)) s = text_judgement n stage text ≡ refused why
 TakesLine n stage text names (Err fault.NoMemory) s = BringsName names (content_of_line names text)
 
