@@ -17,7 +17,7 @@ use std::collections::{BTreeMap, btree_map};
 use std::marker::Model;
 
 /// The edges that are there before or after a timestamp, ascending by the vertices to which they lead. It goes
-/// over places and changes once.
+/// over places and changes once, and takes its memory at once.
 pub(crate) fn list(
     alloc: Global,
     places: &Neighbours<Option<LabelId>>,
@@ -28,7 +28,7 @@ pub(crate) fn list(
     requires have_places { HavePlaces (map.from_entries {R = nat_cmp} changes.now.entries) places.now }
     ensures { IfOk result (λ near. near ≡ near_of_places (map.from_entries changes.now.entries) t (map.entries places.now)) }
 {
-    let mut list = NearList::new(alloc);
+    let mut list = NearList::with_room(alloc, places.len())?;
     let mut later = Later::of(changes);
     for (to, at_floor) in places {
         let near = later.near_around(to, at_floor, t);

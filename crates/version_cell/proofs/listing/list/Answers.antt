@@ -9,12 +9,12 @@ pub loop-to-init : goal.loop-to-init
 loop-to-init c =
     let whole = near_of_places (map.from_entries {R = nat_cmp} c.args.changes.now.entries) c.args.t (map.entries c.args.places.now) in
     let init = listing-init c.args.t c.args.changes.now.entries c.args.places.now c.of-later.ensures.ascending c.requires.have_places in
-    subst (IsListing c.args.t whole c.new-list.result c.of-later.result) (sym c.into_iter-to-iterator.ensures.into_iter_gives.0)
-    (subst (λ later. IsListing c.args.t whole c.new-list.result later (map.entries c.args.places.now)) (sym c.of-later.ensures.all)
-    (subst (λ listed. IsListing c.args.t whole listed c.args.changes.now.entries (map.entries c.args.places.now)) (sym c.new-list.ensures) init))
+    subst (IsListing c.args.t whole c.in_ok-list.list c.of-later.result) (sym c.into_iter-to-iterator.ensures.into_iter_gives.0)
+    (subst (λ later. IsListing c.args.t whole c.in_ok-list.list later (map.entries c.args.places.now)) (sym c.of-later.ensures.all)
+    (subst (λ listed. IsListing c.args.t whole listed c.args.changes.now.entries (map.entries c.args.places.now)) (sym c.in_ok-list.ensures) init))
 
-pub loop-to-preserved-in-Continue-1 : goal.loop-to-preserved-in-Continue-1
-loop-to-preserved-in-Continue-1 c =
+pub loop-to-preserved-in-Continue-branch-2 : goal.loop-to-preserved-in-Continue-branch-2
+loop-to-preserved-in-Continue-branch-2 c =
     let whole = near_of_places (map.from_entries {R = nat_cmp} c.args.changes.now.entries) c.args.t (map.entries c.args.places.now) in
     let entry = subst (IsListing c.args.t whole c.loop-to.list c.loop-to.later) c.in-Some.ensures.steps c.loop-to.invariant in
     subst (λ listed. IsListing c.args.t whole listed c.near_around-near.new.self c.next.new.self) (sym c.in_ok-push.ensures.ok)
