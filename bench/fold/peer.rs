@@ -1,6 +1,6 @@
-//! The work of `tesseract fold` in plain Rust, over std's `BTreeSet`, and the records that both are timed on:
-//! `peer fold` reads records and writes the pieces at the last `DONE`, `peer generate RECORDS PIECES` writes
-//! so many lines of records with about so many pieces held. Pieces here are of vertices alone.
+//! The work of `tesseract fold` in plain Rust, over std's `BTreeSet`, and the records that
+//! both are timed on: `peer fold` reads records and writes the pieces at the last `DONE`, `peer generate MODE
+//! RECORDS PIECES` writes so many lines of records with about so many pieces of vertices or of edges held.
 use std::cmp::Ordering;
 use std::collections::BTreeSet;
 use std::error::Error;
@@ -13,31 +13,41 @@ const BLOCK_BYTES: usize = 1 << 16;
 const ID_DIGITS: usize = 10;
 const STAMP_DIGITS: usize = 20;
 
-/// Vertices, ascending.
+#[derive(Clone, Copy, PartialEq, Eq, PartialOrd, Ord)]
+enum Mode {
+    Vertex,
+    Edge,
+}
+
+/// Vertices or edges, ascending. A vertex is its id, and an edge the id of its lower end and then that of its
+/// higher one, with 32 bits each.
 #[derive(Clone, Copy)]
 struct Piece {
+    mode: Mode,
     len: u8,
-    ids: [u32; MOST_MEMBERS],
+    members: [u64; MOST_MEMBERS],
 }
 
 impl Piece {
-    fn empty() -> Piece {
+    fn empty(mode: Mode) -> Piece {
         Piece {
+            mode,
             len: 0,
-            ids: [0; MOST_MEMBERS],
+            members: [0; MOST_MEMBERS],
         }
     }
 
-    fn members(&self) -> &[u32] {
-        &self.ids[..usize::from(self.len)]
+    fn members(&self) -> &[u64] {
+        &self.members[..usize::from(self.len)]
     }
 
-    /// Adds a vertex behind the others, if it is above them and there is room.
-    fn push(&mut self, id: u32) -> Option<()> {
-        if self.members().last().is_some_and(|last| *last >= id) {
+    /// Adds a member after the others, if it is of their mode and above them and there is room.
+    fn push(&mut self, (mode, member): (Mode, u64)) -> Option<()> {
+        let follows = self.members().last().is_none_or(|last| *last < member);
+        if mode != self.mode || !follows {
             return None;
         }
-        *self.ids.get_mut(usize::from(self.len))? = id;
+        *self.members.get_mut(usize::from(self.len))? = member;
         self.len += 1;
         Some(())
     }
@@ -45,7 +55,9 @@ impl Piece {
 
 impl Ord for Piece {
     fn cmp(&self, other: &Piece) -> Ordering {
-        self.members().cmp(other.members())
+        self.mode
+            .cmp(&other.mode)
+            .then_with(|| self.members().cmp(other.members()))
     }
 }
 
@@ -57,7 +69,7 @@ impl PartialOrd for Piece {
 
 impl PartialEq for Piece {
     fn eq(&self, other: &Piece) -> bool {
-        self.members() == other.members()
+        self.mode == other.mode && self.members() == other.members()
     }
 }
 
@@ -71,6 +83,7 @@ enum Kind {
 
 enum Record {
     Nothing,
+    Head,
     Change {
         kind: Kind,
         stamp: u64,
@@ -78,6 +91,7 @@ enum Record {
     },
     Done {
         stamp: u64,
+        count: Option<u64>,
     },
 }
 
@@ -96,6 +110,22 @@ fn read_number(word: &[u8], digits: usize) -> Option<u64> {
     Some(number)
 }
 
+fn read_id(word: &[u8]) -> Option<u32> {
+    u32::try_from(read_number(word, ID_DIGITS)?).ok()
+}
+
+fn read_member(word: &[u8]) -> Option<(Mode, u64)> {
+    let Some(dash) = word.iter().position(|byte| *byte == b'-') else {
+        return Some((Mode::Vertex, u64::from(read_id(word)?)));
+    };
+    let (low, high) = (read_id(&word[..dash])?, read_id(&word[dash + 1..])?);
+    (low < high).then_some((Mode::Edge, edge(low, high)))
+}
+
+fn edge(low: u32, high: u32) -> u64 {
+    u64::from(low) << 32 | u64::from(high)
+}
+
 fn read_record(line: &[u8]) -> Option<Record> {
     let is_blank = |byte: &u8| *byte == b' ' || *byte == b'\t';
     let mut words = line.split(is_blank).filter(|word| !word.is_empty());
@@ -106,23 +136,35 @@ fn read_record(line: &[u8]) -> Option<Record> {
         b"REM" => Some(Kind::Rem),
         b"NEW" => Some(Kind::New),
         b"DONE" => None,
+        b"records" => return words.eq([b"2"]).then_some(Record::Head),
         [b'#', ..] => return Some(Record::Nothing),
         _ => return None,
     };
     let stamp = read_number(words.next()?, STAMP_DIGITS)?;
     let Some(kind) = kind else {
-        return words.next().is_none().then_some(Record::Done { stamp });
+        let count = match words.next() {
+            None => None,
+            Some(word) => Some(read_number(word, STAMP_DIGITS)?),
+        };
+        return words
+            .next()
+            .is_none()
+            .then_some(Record::Done { stamp, count });
     };
-    let mut piece = Piece::empty();
+    let first = read_member(words.next()?)?;
+    let mut piece = Piece::empty(first.0);
+    piece.push(first)?;
     for word in words {
-        piece.push(u32::try_from(read_number(word, ID_DIGITS)?).ok()?)?;
+        piece.push(read_member(word)?)?;
     }
-    (piece.len > 0).then_some(Record::Change { kind, stamp, piece })
+    Some(Record::Change { kind, stamp, piece })
 }
 
 /// The pieces that are there, and what the open timestamp has changed.
 #[derive(Default)]
 struct Fold {
+    has_counts: Option<bool>,
+    mode: Option<Mode>,
     done: u64,
     pieces: BTreeSet<Piece>,
     open: Vec<(Kind, Piece)>,
@@ -132,19 +174,35 @@ impl Fold {
     fn take(&mut self, line: &[u8]) -> Result<(), &'static str> {
         match read_record(line).ok_or("BadLine")? {
             Record::Nothing => Ok(()),
-            Record::Change { kind, stamp, piece } => self.change(kind, stamp, piece),
-            Record::Done { stamp } => {
-                if !self.is_open(stamp) {
-                    return Err("OutOfOrder");
-                }
-                self.done = stamp;
-                self.open.clear();
+            Record::Head if self.has_counts.is_some() => Err("WrongForm"),
+            Record::Head => {
+                self.has_counts = Some(true);
                 Ok(())
             }
+            Record::Change { kind, stamp, piece } => self.change(kind, stamp, piece),
+            Record::Done { stamp, count } => self.close(stamp, count),
         }
     }
 
+    fn close(&mut self, stamp: u64, count: Option<u64>) -> Result<(), &'static str> {
+        if count.is_some() != *self.has_counts.get_or_insert(false) {
+            return Err("WrongForm");
+        }
+        if !self.is_open(stamp) {
+            return Err("OutOfOrder");
+        }
+        if count.is_some_and(|said| said != self.pieces.len() as u64) {
+            return Err("WrongCount");
+        }
+        self.done = stamp;
+        self.open.clear();
+        Ok(())
+    }
+
     fn change(&mut self, kind: Kind, stamp: u64, piece: Piece) -> Result<(), &'static str> {
+        if self.mode.is_some_and(|mode| mode != piece.mode) {
+            return Err("MixedModes");
+        }
         let is_next = match self.open.last() {
             None => true,
             Some((before, last)) if *before == kind => *last < piece,
@@ -159,6 +217,8 @@ impl Fold {
             _ => {}
         }
         self.open.push((kind, piece));
+        self.mode = Some(piece.mode);
+        self.has_counts.get_or_insert(false);
         Ok(())
     }
 
@@ -227,11 +287,15 @@ fn put_number(out: &mut impl Write, mut number: u64) -> io::Result<()> {
 }
 
 fn put_members(out: &mut impl Write, piece: &Piece) -> io::Result<()> {
-    for (place, id) in piece.members().iter().enumerate() {
+    for (place, member) in piece.members().iter().enumerate() {
         if place > 0 {
             out.write_all(b" ")?;
         }
-        put_number(out, u64::from(*id))?;
+        if piece.mode == Mode::Edge {
+            put_number(out, member >> 32)?;
+            out.write_all(b"-")?;
+        }
+        put_number(out, member & u64::from(u32::MAX))?;
     }
     out.write_all(b"\n")
 }
@@ -250,16 +314,33 @@ impl Draws {
         (c ^ (c >> 31)) % end
     }
 
-    /// One to four vertices, of ten million.
-    fn piece(&mut self) -> Piece {
-        let len = 1 + self.below(4);
-        let mut ids = BTreeSet::new();
-        while (ids.len() as u64) < len {
-            ids.insert(1 + self.below(10_000_000) as u32);
+    fn vertex(&mut self) -> u32 {
+        1 + self.below(10_000_000) as u32
+    }
+
+    fn member(&mut self, mode: Mode) -> u64 {
+        let first = self.vertex();
+        if mode == Mode::Vertex {
+            return u64::from(first);
         }
-        let mut piece = Piece::empty();
-        for id in ids {
-            piece.push(id);
+        loop {
+            let second = self.vertex();
+            if second != first {
+                return edge(first.min(second), first.max(second));
+            }
+        }
+    }
+
+    /// One to four members, over ten million vertices.
+    fn piece(&mut self, mode: Mode) -> Piece {
+        let len = 1 + self.below(4);
+        let mut members = BTreeSet::new();
+        while (members.len() as u64) < len {
+            members.insert(self.member(mode));
+        }
+        let mut piece = Piece::empty(mode);
+        for member in members {
+            piece.push((mode, member));
         }
         piece
     }
@@ -279,7 +360,7 @@ fn put_records(
 }
 
 /// Up to eight pieces go and up to eight come at each timestamp; none goes while fewer are there than wanted.
-fn generate(out: &mut impl Write, records: u64, wanted: usize) -> io::Result<()> {
+fn generate(out: &mut impl Write, mode: Mode, records: u64, wanted: usize) -> io::Result<()> {
     let mut draws = Draws { count: 0 };
     let mut pieces = BTreeSet::new();
     let mut places = Vec::new();
@@ -299,7 +380,7 @@ fn generate(out: &mut impl Write, records: u64, wanted: usize) -> io::Result<()>
         // What comes is drawn before anything goes, so that no piece does both.
         let mut coming = BTreeSet::new();
         while (coming.len() as u64) < comes {
-            let piece = draws.piece();
+            let piece = draws.piece(mode);
             if pieces.insert(piece) {
                 coming.insert(piece);
             }
@@ -328,8 +409,13 @@ fn main() -> Result<(), Box<dyn Error>> {
                 put_members(&mut out, piece)?;
             }
         }
-        ["generate", records, wanted] => generate(&mut out, records.parse()?, wanted.parse()?)?,
-        _ => return Err("usage: peer fold | peer generate RECORDS PIECES".into()),
+        ["generate", "vertices", records, wanted] => {
+            generate(&mut out, Mode::Vertex, records.parse()?, wanted.parse()?)?
+        }
+        ["generate", "edges", records, wanted] => {
+            generate(&mut out, Mode::Edge, records.parse()?, wanted.parse()?)?
+        }
+        _ => return Err("usage: peer fold | peer generate vertices|edges RECORDS PIECES".into()),
     }
     out.flush()?;
     Ok(())

@@ -1,42 +1,41 @@
--- The words of a line after its first one, and the parts of a word round dashes.
-use Rattle.std.proofs.Common.{◌≡◌, ℕ, suc, ◌+◌, ◌-◌, ◌^◌, ◌<◌, Bool, true, false, ◌&&◌, cond, ltb, leb, List, [], ◌∷◌, length, take, drop, Option, None, Some, slice_get, refl, sym, ap, subst, ◌∙◌, arith, if◌then◌else◌}
-use Rattle.std.specs.List.{slice_split, onto_first, list_all, position, position_or_len, join_with_byte}
-use Rattle.std.specs.Option.{option_and_then}
+-- The first word of a line and the others, and the parts of a word round dashes.
+use Rattle.std.proofs.Common.{◌≡◌, ℕ, ◌+◌, ◌-◌, ◌^◌, ◌<◌, Bool, true, false, ◌&&◌, cond, ltb, leb, List, [], ◌∷◌, length, take, drop, Option, None, Some, refl, sym, ap, subst, ◌∙◌, arith, if◌then◌else◌}
+use Rattle.std.specs.List.{slice_split, onto_first, list_all, filter, position, position_or_len, join_with_byte}
+use Rattle.std.specs.Option.{option_and_then, option_map}
 use Rattle.std.proofs.lemmas.Bool.{and_parts, and_right, ne_eqb, leb-true, ltb-true, ltb-false}
-use Rattle.std.proofs.lemmas.Bool.Decides.{nat_tests}
 use Rattle.std.proofs.lemmas.List.Splits.{slice_split_none, slice_split_first, slice_split-cons_no, length-slice_split, join_with_byte-slice_split}
-use Rattle.std.proofs.lemmas.List.{take_all, length-drop}
+use Rattle.std.proofs.lemmas.List.{take_all, length-drop, nil_from_length}
 use Rattle.std.proofs.lemmas.List.Sums.{fails_before_first}
-use Rattle.line_fields.specs.meaning.Fields.{is_digit, has_bytes, value_after, words_of, trim_start, after_word, skip_words, rest_of, id_of, is_dash}
-use Rattle.line_fields.proofs.WordsOf.{words_of-trim_start, words_of-first, trim_start-first}
-use Rattle.record_text.specs.meaning.Grammar.{edge_of_ends, edge_said, member_of_parts}
+use Rattle.line_fields.specs.meaning.Fields.{is_blank, is_digit, has_bytes, value_after, words_of, trim_start, id_of, is_dash}
+use Rattle.line_fields.proofs.WordsOf.{words_of-trim_start, trim_start-first}
+use Rattle.graph_types.specs.declared.member.Member.TheVariants as member
+use Rattle.record_text.specs.meaning.Grammar.{edge_of_ends, edge_said, member_of, member_of_parts}
 
 -- ---- words
 
-behind_one : (words : List (List ℕ)) (line : List ℕ) → words_of line ≡ words → words_of (cond (ltb 1 (suc (length words))) line []) ≡ words
-behind_one [] line is = refl
-behind_one (w ∷ words) line is =
-    let two : ltb 1 (suc (length (w ∷ words))) ≡ true = grind (arith, nat_tests) in
-    ap (λ b. words_of (cond b line [])) two ∙ is
-
--- a line with a first word has its other words after that
-pub words_of-rest_of : (line word : List ℕ) → slice_get (words_of line) 0 ≡ Some word → words_of line ≡ word ∷ words_of (rest_of line 1)
-words_of-rest_of line word at =
-    let by_rest : (t : List ℕ) → trim_start line ≡ t → slice_get (words_of t) 0 ≡ Some word → words_of line ≡ word ∷ words_of (rest_of line 1) = elim [
-      | [] ↦ λ _ none. absurd (cc)
-      | b ∷ bs ↦ λ e at.
-          let no = trim_start-first line b bs e in
-          let first = words_of-first b bs no in
-          let words : words_of line ≡ (b ∷ first.0) ∷ words_of (after_word bs) = sym (words_of-trim_start line) ∙ ap words_of e ∙ first.1 in
-          let is_word : b ∷ first.0 ≡ word = let found : Some (b ∷ first.0) ≡ Some word = ap (λ ws. slice_get ws 0) (sym first.1) ∙ at in cc in
-          let skipped : skip_words 1 line ≡ after_word bs = ap after_word e ∙ ap (λ t. cond t (b ∷ bs) (after_word bs)) no in
-          let behind : words_of (rest_of line 1) ≡ words_of (after_word bs) =
-          ap (λ ws. words_of (cond (ltb 1 (length ws)) (skip_words 1 line) [])) words
-          ∙ ap (λ rest. words_of (cond (ltb 1 (suc (length (words_of (after_word bs))))) rest [])) skipped
-          ∙ behind_one (words_of (after_word bs)) (after_word bs) refl in
-          words ∙ (λ i. is_word i ∷ sym behind i)
+-- of a line that begins with no blank, the part up to the first blank is a word
+words_of-parts : (b : ℕ) (bs part : List ℕ) (parts : List (List ℕ)) → is_blank b ≡ false → slice_split is_blank (b ∷ bs) ≡ part ∷ parts → words_of (b ∷ bs) ≡ part ∷ filter has_bytes parts
+words_of-parts b bs part parts other split =
+    let stays : (w : List ℕ) → b ∷ w ≡ part → filter has_bytes (part ∷ parts) ≡ part ∷ filter has_bytes parts =
+    λ w is. ap (λ v. filter has_bytes (v ∷ parts)) (sym is) ∙ ap (λ v. v ∷ filter has_bytes parts) is in
+    let by_parts : (more : List (List ℕ)) → onto_first b more ≡ part ∷ parts → filter has_bytes (part ∷ parts) ≡ part ∷ filter has_bytes parts = elim [
+      | [] ↦ λ e. stays [] (cc)
+      | w ∷ more ↦ λ e. stays w (cc)
     ] in
-    by_rest (trim_start line) refl (ap (λ ws. slice_get ws 0) (words_of-trim_start line) ∙ at)
+    ap (filter has_bytes) split ∙ by_parts (slice_split is_blank bs) (sym (slice_split-cons_no is_blank b bs other) ∙ split)
+
+-- a line that is more than blanks has as its first word the first part of what stands after the blanks before it
+pub words_of-begun : (line begun part : List ℕ) (parts : List (List ℕ)) → begun ≡ trim_start line → 0 < length begun → slice_split is_blank begun ≡ part ∷ parts → words_of line ≡ part ∷ filter has_bytes parts
+words_of-begun line begun part parts is some split =
+    let by_begun : (t : List ℕ) → trim_start line ≡ t → 0 < length t → slice_split is_blank t ≡ part ∷ parts → words_of t ≡ part ∷ filter has_bytes parts = elim [
+      | [] ↦ λ _ some _. absurd (omega arith)
+      | b ∷ bs ↦ λ e _ split. words_of-parts b bs part parts (trim_start-first line b bs e) split
+    ] in
+    sym (words_of-trim_start line) ∙ ap words_of (sym is) ∙ by_begun begun (sym is) some split
+
+-- a line of blanks has no word
+pub words_of-blanks : (line begun : List ℕ) → begun ≡ trim_start line → length begun ≡ 0 → words_of line ≡ []
+words_of-blanks line begun is none = sym (words_of-trim_start line) ∙ ap words_of (sym is ∙ nil_from_length begun none)
 
 -- ---- parts
 
@@ -52,6 +51,15 @@ slice_split-digits (d ∷ ds) digits =
 id_of-other : (word : List ℕ) → list_all is_digit word ≡ false → id_of word ≡ None
 id_of-other word other =
     ap (λ b. if b && ltb (value_after 0 word) (2 ^ 32) then Some (value_after 0 word) else None) (and_right (has_bytes word && leb (length word) 10) _ other)
+
+-- an id is one part
+pub member_of-id : (word : List ℕ) (id : ℕ) → id_of word ≡ Some id → member_of word ≡ Some (member.Vertex id)
+member_of-id word id said =
+    let by_digits : (b : Bool) → list_all is_digit word ≡ b → member_of word ≡ Some (member.Vertex id) = elim [
+      | true ↦ λ digits. ap member_of_parts (slice_split-digits word digits) ∙ ap (option_map (λ v. member.Vertex v)) said
+      | false ↦ λ other. let none : None ≡ Some id = sym (id_of-other word other) ∙ said in absurd (cc)
+    ] in
+    by_digits (list_all is_digit word) refl
 
 edge_said-none : (low high : List ℕ) → id_of high ≡ None → edge_said low high ≡ None
 edge_said-none low high none =
@@ -75,27 +83,27 @@ member_of_parts-more low high =
     ] in
     by_parts (slice_split is_dash high) refl
 
--- a dash that was found parts the word
-pub slice_split-at_dash : (word : List ℕ) (place : ℕ) → position is_dash word ≡ Some place →
-    (place < length word) × (slice_split is_dash word ≡ take place word ∷ slice_split is_dash (drop (place + 1) word))
-slice_split-at_dash word place found =
-    let first = position_or_len is_dash word in
-    let by_test : (b : Bool) → ltb first (length word) ≡ b → cond b (Some first) None ≡ Some place → (place < length word) × (slice_split is_dash word ≡ take place word ∷ slice_split is_dash (drop (place + 1) word)) = elim [
+-- the first byte that passes parts the bytes
+pub slice_split-at : (p : ℕ → Bool) (word : List ℕ) (place : ℕ) → position p word ≡ Some place →
+    (place < length word) × (slice_split p word ≡ take place word ∷ slice_split p (drop (place + 1) word))
+slice_split-at p word place found =
+    let first = position_or_len p word in
+    let by_test : (b : Bool) → ltb first (length word) ≡ b → cond b (Some first) None ≡ Some place → (place < length word) × (slice_split p word ≡ take place word ∷ slice_split p (drop (place + 1) word)) = elim [
       | true ↦ λ t same.
           let is : first ≡ place = cc in
           let within = ltb-true first (length word) t in
-          (omega (arith, is, within), subst (λ n. slice_split is_dash word ≡ take n word ∷ slice_split is_dash (drop (n + 1) word)) is (slice_split_first is_dash word 0 within))
+          (omega (arith, is, within), subst (λ n. slice_split p word ≡ take n word ∷ slice_split p (drop (n + 1) word)) is (slice_split_first p word 0 within))
       | false ↦ λ _ same. absurd (cc)
     ] in
     by_test (ltb first (length word)) refl found
 
--- a word without a dash is one part
-pub slice_split-no_dash : (word : List ℕ) → position is_dash word ≡ None → slice_split is_dash word ≡ word ∷ []
-slice_split-no_dash word none =
-    let first = position_or_len is_dash word in
-    let by_test : (b : Bool) → ltb first (length word) ≡ b → cond b (Some first) None ≡ None → slice_split is_dash word ≡ word ∷ [] = elim [
+-- where none passes they are one part
+pub slice_split-one : (p : ℕ → Bool) (word : List ℕ) → position p word ≡ None → slice_split p word ≡ word ∷ []
+slice_split-one p word none =
+    let first = position_or_len p word in
+    let by_test : (b : Bool) → ltb first (length word) ≡ b → cond b (Some first) None ≡ None → slice_split p word ≡ word ∷ [] = elim [
       | true ↦ λ _ same. absurd (cc)
-      | false ↦ λ t _. slice_split_none is_dash word (λ k d within. fails_before_first is_dash word k d (omega (arith, within, ltb-false first (length word) t)))
+      | false ↦ λ t _. slice_split_none p word (λ k d within. fails_before_first p word k d (omega (arith, within, ltb-false first (length word) t)))
     ] in
     by_test (ltb first (length word)) refl none
 

@@ -1,11 +1,11 @@
 ghost use Rattle.std.specs.Prelude.{◌≡◌, ◌∷◌, [], IsTrue, MatchOption, MatchResult, Some, SomeIff, position};
 ghost use Rattle.std.specs.List.{slice_split};
 ghost use Rattle.graph_types.specs.meaning.Piece.{CanJoin, with_joined, member_lt, mode_of};
-ghost use Rattle.line_fields.specs.meaning.Fields.{words_of, is_dash};
+ghost use Rattle.line_fields.specs.meaning.Fields.{words_of, is_blank, is_dash};
 ghost use Rattle.record_text.specs.meaning.Grammar.{count_said, edge_said, head_said, member_of, piece_said, record_of, record_said, stamped_said};
 
 use graph_types::{Edge, Member, Mode, Piece, Stamp};
-use line_fields::{is_nothing, read_id, read_number, rest, word};
+use line_fields::{is_nothing, read_id, read_number, trim_start};
 use thiserror::Error;
 
 /// What a line of a text of records says.
@@ -141,10 +141,11 @@ fn with_next(piece: &Piece, last: &Member, member: &Member) -> Option<Piece>
 fn read_member(word: &[u8]) -> Option<Member>
     ensures { result ≡ member_of word.now }
 {
-    match split_at_dash(word) {
-        None => read_id(word).map(Member::Vertex),
-        Some((low, high)) => read_edge(low, high),
+    if let Some(id) = read_id(word) {
+        return Some(Member::Vertex(id));
     }
+    let (low, high) = split_at_dash(word)?;
+    read_edge(low, high)
 }
 
 /// The edge whose ends these words say, the lower one first.
@@ -182,6 +183,18 @@ fn split_word(line: &[u8]) -> Option<(&[u8], &[u8])>
         (words_of line.now ≡ [])
         (λ parts. words_of line.now ≡ parts.0.now ∷ words_of parts.1.now) }
 {
-    let first = word(line, 0)?;
-    Some((first, rest(line, 1)))
+    let line = trim_start(line);
+    if line.is_empty() {
+        return None;
+    }
+    match blank_place(line) {
+        None => Some((line, &[])),
+        Some(blank) => Some((&line[..blank], &line[blank + 1..])),
+    }
+}
+
+fn blank_place(line: &[u8]) -> Option<usize>
+    ensures { result ≡ position is_blank line.now }
+{
+    line.iter().position(|b| *b == b' ' || *b == b'\t')
 }

@@ -14,3 +14,5 @@ pub mod Judging
 pub mod Told
 pub mod Going
 pub mod Taken
+pub mod Packing
+pub mod Holding

@@ -2,3 +2,4 @@
 pub mod Folds
 pub mod Reading
 pub mod Standing
+pub mod Given

@@ -1,2 +1,5 @@
 -- How it is stored.
 pub mod Undone
+pub mod Packed
+pub mod Held
+pub mod Left

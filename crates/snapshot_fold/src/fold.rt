@@ -11,11 +11,11 @@ ghost use Rattle.record_text.specs.declared.read.RecordLine.TheVariants.{Rem, Ad
 
 use crate::fault::{FoldFault, FoldRefusal};
 use crate::forms::{format_after, is_of_form};
+use crate::held::HeldPieces;
 use crate::listing::{is_above, put_back};
 use graph_types::{Mode, NoMemory, Piece, PieceList, Stamp};
 use record_text::{RecordFormat, RecordLine};
 use std::alloc::Global;
-use std::collections::BTreeSet;
 use std::marker::Model;
 
 /// A text of records that is read record by record. It holds the pieces that are there, and what the
@@ -26,7 +26,7 @@ pub struct Fold {
     format: Option<RecordFormat>,
     mode: Option<Mode>,
     done: Stamp,
-    pieces: BTreeSet<Piece>,
+    pieces: HeldPieces,
     went: PieceList,
     came: PieceList,
 }
@@ -41,13 +41,13 @@ impl Model for Fold {
       format = f.format;
       mode = f.mode;
       done = f.done;
-      settled = pieces_before_open f.pieces.keys f.went f.came;
-      held = f.pieces.keys;
+      settled = pieces_before_open f.pieces f.went f.came;
+      held = f.pieces;
       went = f.went;
       came = f.came;
     } };
 
-    ghost invariant = { λ f. IsOpen f.pieces.keys f.went f.came };
+    ghost invariant = { λ f. IsOpen f.pieces f.went f.came };
 }
 
 impl Fold {
@@ -60,7 +60,7 @@ impl Fold {
             format: None,
             mode: None,
             done: Stamp(0),
-            pieces: BTreeSet::new(alloc),
+            pieces: HeldPieces::new(alloc),
             went: PieceList::new(alloc),
             came: PieceList::new(alloc),
         }
@@ -293,7 +293,7 @@ impl Fold {
                 FoldFault::NoMemory
             });
         }
-        match self.pieces.insert(*piece) {
+        match self.pieces.insert(piece) {
             Ok(true) => {
                 self.mode = Some(piece.mode());
                 Ok(())

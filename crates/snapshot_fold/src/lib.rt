@@ -5,8 +5,10 @@ mod fault;
 mod fold;
 mod folding;
 mod forms;
+mod held;
 pub mod laws;
 mod listing;
+mod packed;
 
 pub use fault::{FoldFault, FoldRefusal};
 pub use fold::Fold;

@@ -2,28 +2,28 @@ ghost use Rattle.std.specs.Prelude.{◌≡◌, ◌++◌, true, false, drop, IfOk
 ghost use Rattle.snapshot_fold.specs.meaning.Pieces.{is_above as is_above_last, last_of};
 ghost use Rattle.snapshot_fold.specs.storage.Undone.{begins_with, pieces_above, pieces_before_open, pieces_up_to};
 
+use crate::held::HeldPieces;
 use graph_types::{NoMemory, Piece, PieceList};
 use std::alloc::Global;
-use std::collections::BTreeSet;
 
 /// The pieces before some that went and some that came, ascending, in a new list. `held` is passed
 /// through once, beside the other two.
 pub fn put_back(
     alloc: Global,
-    held: &BTreeSet<Piece>,
+    held: &HeldPieces,
     went: &[Piece],
     came: &[Piece],
 ) -> Result<PieceList, NoMemory>
-    ensures { IfOk result (λ pieces. pieces ≡ pieces_before_open held.now.keys went.now came.now) }
+    ensures { IfOk result (λ pieces. pieces ≡ pieces_before_open held.now went.now came.now) }
 {
     let mut pieces = PieceList::new(alloc);
     let mut to_put = went;
     let mut to_skip = came;
     for piece in held.iter() {
-        to_put = put_up_to(&mut pieces, to_put, piece)?;
-        match behind_first(to_skip, piece) {
+        to_put = put_up_to(&mut pieces, to_put, &piece)?;
+        match behind_first(to_skip, &piece) {
             Some(behind) => to_skip = behind,
-            None => pieces.push(*piece)?,
+            None => pieces.push(piece)?,
         }
     }
     put_all(&mut pieces, to_put)?;

@@ -11,5 +11,5 @@ returns-clause-ascending c =
     let f = c.self.inside in
     IfOk-weaker c.put_back.result _ (IsStrictlySortedBy piece_cmp)
     (λ pieces is. subst (IsStrictlySortedBy piece_cmp)
-    (sym (is ∙ (λ i. pieces_before_open f.pieces.keys (c.deref.ensures i) (c.deref-2.ensures i))))
-    (undone-ascends f.pieces.keys f.went f.came c.self.invariant)) c.put_back.ensures
+    (sym (is ∙ (λ i. pieces_before_open f.pieces (c.deref.ensures i) (c.deref-2.ensures i))))
+    (undone-ascends f.pieces f.went f.came c.self.invariant)) c.put_back.ensures

@@ -9,5 +9,5 @@ pub returns-clause-ok : goal.returns-clause-ok
 returns-clause-ok c =
     c.in_default.ensures
     ∙ ap Ok
-    (sym (after_done_is c.args.self.now c.self.inside.format c.self.inside.mode c.self.inside.done c.self.inside.pieces.keys c.self.inside.went c.self.inside.came c.self.view_is c.self.invariant c.args.stamp)
-    ∙ (λ i. seen c.self.inside.format c.self.inside.mode c.args.stamp c.self.inside.pieces.keys (sym c.new.ensures i) (sym c.new-2.ensures i)))
+    (sym (after_done_is c.args.self.now c.self.inside.format c.self.inside.mode c.self.inside.done c.self.inside.pieces c.self.inside.went c.self.inside.came c.self.view_is c.self.invariant c.args.stamp)
+    ∙ (λ i. seen c.self.inside.format c.self.inside.mode c.args.stamp c.self.inside.pieces (sym c.new.ensures i) (sym c.new-2.ensures i)))
