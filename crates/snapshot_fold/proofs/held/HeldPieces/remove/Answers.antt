@@ -1,7 +1,7 @@
 use Rattle.std.proofs.Common.{sym, ap, subst, ◌∙◌}
 use Rattle.std.specs.List.{AllByRecursion}
 use Rattle.shared_lemmas.proofs.Claims.{all-remove_key}
-use Rattle.snapshot_fold.specs.meaning.Pieces.{has_piece, is_same_piece, without_piece}
+use Rattle.snapshot_fold.specs.meaning.Pieces.{has_piece, without_piece}
 use Rattle.snapshot_fold.specs.storage.Held.{IsKept, pieces_kept}
 use Rattle.snapshot_fold.specs.storage.Packed.{HasFew}
 use Rattle.snapshot_fold.proofs.Holding.{absent_long, without-absent}
