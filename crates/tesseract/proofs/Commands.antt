@@ -3,11 +3,11 @@ use Rattle.std.proofs.Common.{◌≡◌, Bool, true, false, ◌||◌, ℕ, List,
 use Rattle.std.specs.Option.{option_and_then, option_map}
 use Rattle.std.specs.Str.{bytes_eq}
 use Rattle.command_words.specs.declared.command.Verb.{Verb}
-use Rattle.command_words.specs.declared.command.Verb.TheVariants.{Mine, Fold, Migrate}
+use Rattle.command_words.specs.declared.command.Verb.TheVariants.{Mine, Fold, Migrate, Trial}
 use Rattle.command_words.specs.declared.command.Options.{Options}
 use Rattle.command_words.specs.declared.command.Command.{Command}
 use Rattle.command_words.specs.meaning.Words.{command_of, options_of_words, verb_of}
-use Rattle.tesseract.specs.meaning.Commands.{fold_command, is_still, migrate_command, mine_command}
+use Rattle.tesseract.specs.meaning.Commands.{fold_command, is_still, migrate_command, mine_command, trial_command}
 
 -- a command with options that were given
 of_verb : (verb : Verb) (options : Option Options) (c : Command) →
@@ -29,26 +29,30 @@ first_word : (word : List ℕ) (words : List (List ℕ)) (c : Command) → comma
     verb_of word ≡ Some c.verb
 first_word word words c given = named (verb_of word) (λ verb. options_of_words verb words) c given
 
-is_fold : (m f g : Bool) → (if m then Some Mine else if f then Some Fold else if g then Some Migrate else None) ≡ Some Fold →
-    f || g ≡ true
-is_fold true f g named = absurd (let e : Some Mine ≡ Some Fold = named in cc)
-is_fold false true g named = refl
-is_fold false false true named = refl
-is_fold false false false named = absurd (let e : None ≡ Some Fold = named in cc)
+-- what the first word names, by which of the names it is
+abbrev verb_by : Bool → Bool → Bool → Bool → Option Verb
+verb_by m f g t = if m then Some Mine else if f then Some Fold else if g then Some Migrate else if t then Some Trial else None
 
-is_migrate : (m f g : Bool) → (if m then Some Mine else if f then Some Fold else if g then Some Migrate else None) ≡ Some Migrate →
-    f || g ≡ true
-is_migrate true f g named = absurd (let e : Some Mine ≡ Some Migrate = named in cc)
-is_migrate false true g named = refl
-is_migrate false false true named = refl
-is_migrate false false false named = absurd (let e : None ≡ Some Migrate = named in cc)
+is_fold : (m f g t : Bool) → verb_by m f g t ≡ Some Fold → f || g ≡ true
+is_fold true f g t named = absurd (let e : Some Mine ≡ Some Fold = named in cc)
+is_fold false true g t named = refl
+is_fold false false true t named = refl
+is_fold false false false true named = absurd (let e : Some Trial ≡ Some Fold = named in cc)
+is_fold false false false false named = absurd (let e : None ≡ Some Fold = named in cc)
+
+is_migrate : (m f g t : Bool) → verb_by m f g t ≡ Some Migrate → f || g ≡ true
+is_migrate true f g t named = absurd (let e : Some Mine ≡ Some Migrate = named in cc)
+is_migrate false true g t named = refl
+is_migrate false false true t named = refl
+is_migrate false false false true named = absurd (let e : Some Trial ≡ Some Migrate = named in cc)
+is_migrate false false false false named = absurd (let e : None ≡ Some Migrate = named in cc)
 
 -- to fold takes one thread alone
 pub fold-is_still : (words : List (List ℕ)) (c : Command) → command_of words ≡ Some c → c.verb ≡ Fold →
     is_still words ≡ true
 fold-is_still [] c given fold = absurd (let e : None ≡ Some c = given in cc)
 fold-is_still (word ∷ words) c given fold =
-    is_fold (bytes_eq word (codes "mine")) (bytes_eq word (codes "fold")) (bytes_eq word (codes "migrate"))
+    is_fold (bytes_eq word (codes "mine")) (bytes_eq word (codes "fold")) (bytes_eq word (codes "migrate")) (bytes_eq word (codes "trial"))
     (first_word word words c given ∙ ap Some fold)
 
 -- and so does to migrate
@@ -56,7 +60,7 @@ pub migrate-is_still : (words : List (List ℕ)) (c : Command) → command_of wo
     is_still words ≡ true
 migrate-is_still [] c given migrate = absurd (let e : None ≡ Some c = given in cc)
 migrate-is_still (word ∷ words) c given migrate =
-    is_migrate (bytes_eq word (codes "mine")) (bytes_eq word (codes "fold")) (bytes_eq word (codes "migrate"))
+    is_migrate (bytes_eq word (codes "mine")) (bytes_eq word (codes "fold")) (bytes_eq word (codes "migrate")) (bytes_eq word (codes "trial"))
     (first_word word words c given ∙ ap Some migrate)
 
 -- words that give two commands give them with the same verb and options
@@ -76,3 +80,8 @@ pub migrate-is_not_mine : (words : List (List ℕ)) (c : Command) (options : Opt
 migrate-is_not_mine words c options given migrate mine =
     let same = same_command words c (mine_command options) given mine in
     let verbs : Migrate ≡ Mine = sym migrate ∙ ap (λ (c : Command). c.verb) same in cc
+
+-- words that give this command are those of a trial with its options
+pub trial-options : (words : List (List ℕ)) (c : Command) (options : Options) → command_of words ≡ Some c →
+    command_of words ≡ Some (trial_command options) → c.options ≡ options
+trial-options words c options given trial = ap (λ (c : Command). c.options) (same_command words c (trial_command options) given trial)

@@ -15,3 +15,6 @@ mod Between
 mod Mined
 mod Taking
 mod Heading
+mod SingleUpdates
+mod TrialLines
+mod Counted

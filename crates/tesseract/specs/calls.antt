@@ -2,6 +2,7 @@
 pub mod Run
 pub mod Fold
 pub mod Migrate
+pub mod Trial
 pub mod Waiting
 pub mod Turning
 pub mod Running

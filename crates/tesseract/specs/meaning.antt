@@ -2,3 +2,4 @@
 pub mod Output
 pub mod Status
 pub mod Commands
+pub mod Summary

@@ -1,6 +1,7 @@
 //! Mines patterns in a graph that changes: reads a program and a stream of updates from standard
 //! input, and writes what each update takes away and brings to standard output. Or reads such records
-//! back, and writes the pieces that are there at a timestamp, or the same records in the later format.
+//! back, and writes the pieces that are there at a timestamp, or the same records in the later format. Or makes a job
+//! from numbers, mines it and writes how many records it has.
 #![tactic(auto)]
 
 mod fold;
@@ -13,6 +14,7 @@ mod status;
 mod terms;
 #[cfg(test)]
 mod tests;
+mod trial;
 mod waiting;
 
 use graph_types::FreeGate;

@@ -2,9 +2,10 @@ ghost use Rattle.std.specs.Prelude.{◌≡◌, IsTrue, Some, map, string_bytes};
 ghost use Rattle.command_words.specs.declared.command.Options.{Options};
 ghost use Rattle.command_words.specs.meaning.Ranges.{AreWithin};
 ghost use Rattle.command_words.specs.meaning.Words.{command_of};
-ghost use Rattle.tesseract.specs.meaning.Commands.{fold_command, format_of, is_still, mine_command, terms_of as job_terms};
+ghost use Rattle.tesseract.specs.meaning.Commands.{fold_command, format_of, is_still, mine_command, terms_of as job_terms, trial_bytes, trial_command, trial_terms as counting_terms};
 ghost use Rattle.tesseract.specs.calls.Fold.{FoldsNothing};
 ghost use Rattle.tesseract.specs.calls.Run.{AnswersWords, Mines, Tells, WritesTold};
+ghost use Rattle.tesseract.specs.calls.Trial.{Tries};
 ghost use Rattle.tesseract.specs.calls.Turning.{IsPlan};
 ghost use Rattle.tesseract.specs.meaning.Status.{status_line};
 
@@ -13,6 +14,7 @@ use crate::migrate::migrate;
 use crate::mine::mine;
 use crate::status::Status;
 use crate::terms::{Plan, Terms};
+use crate::trial::trial;
 use command_words::{Command, Options, Verb, read_words};
 use graph_types::Gate;
 use job_io::{Sink, Source, put_all};
@@ -60,6 +62,11 @@ pub fn run<R: Wait + Threads, S: Source, O: Sink, E: Sink, G: Gate>(
     ensures tells { (options : Options) → command_of (map string_bytes words.now) ≡ Some (mine_command options) →
         WritesTold (job_terms options) (S.left input.old) (S.left input.new)
         (O.written out.old) (O.written out.new) }
+
+    // `trial` writes a summary of the job that it makes, and reads nothing.
+    ensures trialed { (options : Options) → command_of (map string_bytes words.now) ≡ Some (trial_command options) →
+        Tries (counting_terms options) (trial_bytes options) (O.written out.old) (O.written out.new) result
+        × (input.new ≡ input.old) }
 {
     match read_words(alloc, words) {
         Ok(Command { verb, options }) => match verb {
@@ -76,6 +83,18 @@ pub fn run<R: Wait + Threads, S: Source, O: Sink, E: Sink, G: Gate>(
                 ),
             ),
             Verb::Fold | Verb::Migrate => run_still(alloc, words, input, out, err),
+            Verb::Trial => tell(
+                err,
+                trial(
+                    rt,
+                    alloc,
+                    &options,
+                    trial_terms(&options),
+                    plan_of(&options),
+                    out,
+                    gate,
+                ),
+            ),
         },
         Err(fault) => tell(err, Status::from(fault)),
     }
@@ -89,6 +108,16 @@ fn terms_of(options: &Options) -> Terms
         lines: u64::from(options.max_lines),
         records: options.max_records,
         format: format(options.records),
+    }
+}
+
+/// On which terms the job of a trial is mined.
+fn trial_terms(options: &Options) -> Terms
+    ensures { result ≡ counting_terms options.now }
+{
+    Terms {
+        format: RecordFormat::One,
+        ..terms_of(options)
     }
 }
 
