@@ -1,0 +1,15 @@
+pub mod Growing
+pub mod Stages
+pub mod PartRows
+pub mod Rows
+pub mod Showing
+pub mod Moving
+pub mod Leading
+pub mod Keeping
+pub mod SameVec
+pub mod Putting
+pub mod Viewing
+pub mod Measure
+pub mod Beginning
+pub mod Ending
+pub mod Choosing

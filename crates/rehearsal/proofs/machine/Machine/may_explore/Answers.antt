@@ -1,0 +1,14 @@
+use Rattle.std.proofs.Common.{arith}
+use Rattle.std.proofs.lemmas.Bool.Decides.{nat_tests}
+use Rattle.std.proofs.lemmas.Grind.{common_steps}
+use Rattle.rehearsal.specs.meaning.Table.{is_live}
+use Rattle.rehearsal.proofs.machine.Machine.may_explore.Goals as goal
+
+pub returns-then-is_none : goal.returns-then-is_none
+returns-then-is_none c = let is = c.task.ensures is_live in grind (arith, nat_tests, common_steps)
+
+pub returns-in_default : goal.returns-in_default
+returns-in_default c = let is = c.task.ensures is_live in grind (arith, nat_tests, common_steps)
+
+pub returns-in_default-2 : goal.returns-in_default-2
+returns-in_default-2 c = let is = c.task.ensures is_live in grind (arith, nat_tests, common_steps)

@@ -1,0 +1,7 @@
+use Rattle.std.proofs.Common.{◌≡◌, replicate}
+use Rattle.rehearsal.specs.declared.task.Task.TheVariants as task
+use Rattle.rehearsal.proofs.machine.waiting_tasks.Given as goal
+
+-- so many wait
+abbrev pub invariant-loop-i : goal.invariant-loop-i
+invariant-loop-i l = l.tasks.items ≡ replicate l.i task.Waiting

@@ -1,0 +1,3 @@
+pub use Rattle.window_miner.specs.calls.Mining
+pub mod meaning
+pub mod calls

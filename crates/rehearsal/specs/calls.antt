@@ -1,0 +1,2 @@
+-- What private calls do.
+pub mod Tasks
