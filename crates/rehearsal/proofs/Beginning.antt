@@ -1,11 +1,11 @@
 -- That what a machine begins with is sound.
-use Rattle.std.proofs.Common.{◌≡◌, ◌<◌, ◌≤◌, ◌+◌, ℕ, zero, suc, false, List, [], ◌∷◌, map as mapped, length, get_or, replicate, Option, None, Some, refl, sym, ap, subst, ◌∙◌, arith}
+use Rattle.std.proofs.Common.{◌≡◌, ℕ, zero, suc, false, List, ◌∷◌, map as mapped, length, get_or, replicate, Option, None, Some, refl, sym, ap, subst, ◌∙◌, arith}
 use Rattle.std.proofs.lemmas.List.{get_or-replicate}
 use Rattle.graph_types.specs.meaning.Graph.{Graph}
 use Rattle.group_window.specs.meaning.Windows.{IsSound, WindowValue}
 use Rattle.mining_model.specs.meaning.Embeddings.{Pattern}
 use Rattle.shard_events.specs.meaning.Events.{Begins}
-use Rattle.shard_events.specs.meaning.Machine.{State, Waiting as Waits}
+use Rattle.shard_events.specs.meaning.Machine.{State}
 use Rattle.shard_events.specs.meaning.Rule.{Rule}
 use Rattle.shard_state.specs.meaning.Shards.{ShardValue}
 use Rattle.shard_state.specs.meaning.Telling.{Graphs}
@@ -13,7 +13,7 @@ use Rattle.window_miner.specs.calls.Mining.{FollowsShards}
 use Rattle.rehearsal.specs.declared.machine.Machine.{Machine}
 use Rattle.rehearsal.specs.declared.task.Task.{Task}
 use Rattle.rehearsal.specs.declared.task.Task.TheVariants as task
-use Rattle.rehearsal.specs.meaning.MachineState.{MachineState, Stage, Waiting, first_state, stage_of, state_of}
+use Rattle.rehearsal.specs.meaning.MachineState.{MachineState, Waiting, first_state, state_of}
 use Rattle.rehearsal.specs.meaning.Shown.{holder_of, shown, shown_stage, took_in}
 use Rattle.rehearsal.specs.meaning.Soundness.{HasFound, IsSoundMachine, IsSoundState, graphs_from}
 use Rattle.rehearsal.proofs.Rows.{row-of_one}

@@ -1,5 +1,5 @@
 -- What holds of a machine where no event may happen.
-use Rattle.std.proofs.Common.{◌≡◌, ◌≢◌, ◌<◌, ◌≤◌, ◌+◌, ◌-◌, ⊎_elim, ℕ, zero, suc, Bool, true, false, ◌&&◌, not, cond, eqb, eq-eqb, ltb, leb, List, [], ◌∷◌, ◌++◌, map as mapped, filter, length, get_or, take, drop, Option, None, Some, is_none, IfSome, inl, inr, refl, sym, ap, subst, ◌∙◌, arith, add-one}
+use Rattle.std.proofs.Common.{◌≡◌, ◌<◌, ◌≤◌, ◌+◌, ◌-◌, ⊎_elim, ℕ, zero, suc, Bool, true, false, ◌&&◌, not, cond, eqb, eq-eqb, ltb, leb, List, [], ◌∷◌, ◌++◌, map as mapped, filter, length, get_or, take, Option, None, Some, is_none, inl, inr, refl, sym, ap, subst, ◌∙◌, arith, add-one}
 use Rattle.std.specs.List.{AllByRecursion, list_any, range_with_len, slice_get}
 use Rattle.std.proofs.lemmas.Bool.{and_from, cases_lt, le-leb, le-ltb, lt-ltb}
 use Rattle.std.proofs.lemmas.List.{length-map, take_all}
@@ -12,11 +12,9 @@ use Rattle.group_window.specs.meaning.Windows.{IsSound, WindowValue, last_or, gr
 use Rattle.shared_lemmas.specs.meaning.Membership.{IsIn}
 use Rattle.shared_lemmas.proofs.Membership.{IsIn-append_left, IsIn-append_right, IsIn-filter, IsIn-map}
 use Rattle.shard_events.specs.meaning.Machine.{was_put}
-use Rattle.shard_events.specs.meaning.Rule.{Rule, taken_up_to}
 use Rattle.shard_state.specs.calls.Sharing.{KeepGraph, TellUpTo}
 use Rattle.shard_state.specs.meaning.Joining.{shard_at}
-use Rattle.shard_state.specs.meaning.Shards.{ShardValue}
-use Rattle.shard_state.specs.meaning.Telling.{Tells, graph_of, last_of}
+use Rattle.shard_state.specs.meaning.Telling.{Tells}
 use Rattle.shard_state.proofs.TellingOn.{KeepGraph-told}
 use Rattle.update_rules.specs.declared.shards.Part.{Part}
 use Rattle.update_rules.specs.meaning.Parts.{parts_between}
@@ -26,8 +24,8 @@ use Rattle.rehearsal.specs.declared.event.Event.{Event}
 use Rattle.rehearsal.specs.declared.event.Event.TheVariants as event
 use Rattle.rehearsal.specs.declared.task.Task.{Task}
 use Rattle.rehearsal.specs.declared.task.Task.TheVariants as task
-use Rattle.rehearsal.specs.meaning.MachineState.{MachineState, Stage, Waiting, Live, Explored, Finished, stage_of}
-use Rattle.rehearsal.specs.meaning.Shown.{shown, took_in}
+use Rattle.rehearsal.specs.meaning.MachineState.{MachineState, Stage, Waiting, Live, Explored, Finished}
+use Rattle.rehearsal.specs.meaning.Shown.{shown}
 use Rattle.rehearsal.specs.meaning.Soundness.{HasFound, HaveFound, IsSoundState, graphs_from}
 use Rattle.rehearsal.specs.meaning.Table.{all_events, are_for, enabled, group_of, group_parts, has_group, holds, is_explored, is_finished, is_home, is_live, is_waiting, may, next_parts, no_parts, task_is}
 use Rattle.rehearsal.proofs.Leading.{more-left}

@@ -1,6 +1,6 @@
 -- That an event that may happen keeps what is sound.
-use Rattle.std.proofs.Common.{◌≡◌, ◌≢◌, ◌<◌, ◌≤◌, ◌+◌, ◌-◌, ⊎_elim, ℕ, suc, Bool, true, false, ◌&&◌, cond, eqb, eq-eqb, ltb, leb, List, [], ◌∷◌, length, get_or, set, drop, Option, None, Some, is_none, refl, sym, ap, subst, ◌∙◌, arith}
-use Rattle.std.proofs.lemmas.Bool.{and_parts, false≢true, leb-true, ltb-true}
+use Rattle.std.proofs.Common.{◌≡◌, ◌≢◌, ◌<◌, ◌+◌, ℕ, true, eq-eqb, List, length, Option, None, Some, sym, ap, subst, ◌∙◌, arith}
+use Rattle.std.proofs.lemmas.Bool.{false≢true, ltb-true}
 use Rattle.std.proofs.lemmas.List.{get_or-set_other, length-set}
 use Rattle.graph_types.specs.meaning.Graph.{Graph}
 use Rattle.group_window.specs.meaning.Windows.{IsSound, WindowValue}
@@ -16,7 +16,7 @@ use Rattle.rehearsal.specs.declared.event.Event.TheVariants as event
 use Rattle.rehearsal.specs.meaning.MachineState.{MachineState}
 use Rattle.rehearsal.specs.meaning.Shown.{moves_of, shown}
 use Rattle.rehearsal.specs.meaning.Soundness.{IsSoundState, graphs_from}
-use Rattle.rehearsal.specs.meaning.Table.{after, are_for, group_parts, holds, is_home, may, next_parts, no_parts, with_first_part}
+use Rattle.rehearsal.specs.meaning.Table.{after, are_for, group_parts, holds, may, next_parts, with_first_part}
 use Rattle.rehearsal.proofs.Leading.{moves-lead, prune-is, stamp-is, take-is}
 use Rattle.rehearsal.proofs.Moving.{first-for, some-left}
 use Rattle.rehearsal.proofs.Showing.{at-home, holds-it, holds-none}

@@ -1,6 +1,6 @@
 -- That an event that may happen is a move of the machine that is shown.
-use Rattle.std.proofs.Common.{◌≡◌, ◌≢◌, ◌<◌, ◌≤◌, ◌+◌, ◌-◌, ⊎_elim, ℕ, suc, Bool, true, false, ◌&&◌, ◌||◌, not, cond, eqb, eq-eqb, ltb, leb, List, [], ◌∷◌, map as mapped, length, get_or, set, take, drop, replicate, Option, None, Some, is_none, refl, sym, ap, subst, ◌∙◌, arith}
-use Rattle.std.specs.List.{list_any, range_with_len}
+use Rattle.std.proofs.Common.{◌≡◌, ◌≢◌, ◌<◌, ◌≤◌, ◌+◌, ⊎_elim, ℕ, Bool, true, false, ◌&&◌, ◌||◌, cond, eqb, eq-eqb, ltb, leb, List, [], ◌∷◌, map as mapped, length, get_or, set, replicate, Option, None, Some, is_none, refl, sym, ap, subst, ◌∙◌, arith}
+use Rattle.std.specs.List.{range_with_len}
 use Rattle.std.proofs.lemmas.Bool.{and_parts, cases_lt, eqb-true, false_from_ne_true, false≢true, leb-true, le-ltb, ltb-true, ne_eqb, or_right}
 use Rattle.std.proofs.lemmas.List.{drop_more, length-set, map-set, set-get_or}
 use Rattle.std.proofs.lemmas.List.Folds.{list_any_more}
@@ -8,14 +8,14 @@ use Rattle.graph_types.specs.meaning.Graph.{Graph}
 use Rattle.group_window.specs.meaning.Windows.{IsSound, WindowValue, graph_of}
 use Rattle.shard_events.specs.meaning.Events as move
 use Rattle.shard_events.specs.meaning.Events.{LeadTo, Leads, Take, PutPart, PutPruned, Stamp, Begin, Finish, SeeDone, Raise, SeeFront, with_fronts, with_holder, with_next_part, with_put, with_shard, with_stage, with_stamp}
-use Rattle.shard_events.specs.meaning.Machine.{Actor, HasPart, State, part_of_shard, stage_of as task_stage, Ingest, Watch, Task as Reads, Live as Lives, Finished as IsDone}
+use Rattle.shard_events.specs.meaning.Machine.{HasPart, State, part_of_shard, stage_of as task_stage, Ingest, Watch, Task as Reads, Live as Lives, Finished as IsDone}
 use Rattle.shard_state.specs.meaning.Joining.{shard_at}
-use Rattle.shard_state.specs.meaning.Shards.{ShardValue, applied, pruned}
+use Rattle.shard_state.specs.meaning.Shards.{applied, pruned}
 use Rattle.update_rules.specs.declared.shards.Part.{Part}
 use Rattle.update_rules.specs.meaning.Parts.{parts_between}
 use Rattle.rehearsal.specs.declared.event.Event.{Event}
 use Rattle.rehearsal.specs.declared.event.Event.TheVariants as event
-use Rattle.rehearsal.specs.meaning.MachineState.{MachineState, Stage, Waiting, Live, Explored, Finished}
+use Rattle.rehearsal.specs.meaning.MachineState.{MachineState, Stage, Live, Explored, Finished}
 use Rattle.rehearsal.specs.meaning.Shown.{holder_of, moves_of, shown, shown_stage, took_in}
 use Rattle.rehearsal.specs.meaning.Soundness.{IsSoundState, graphs_from}
 use Rattle.rehearsal.specs.meaning.Table.{after, are_for, group_of, group_parts, has_group, holds, is_explored, is_finished, is_home, is_live, is_waiting, may, next_parts, no_parts, task_is, with_first_part}

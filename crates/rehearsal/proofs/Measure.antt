@@ -1,20 +1,18 @@
 -- How much a machine has left to do.
-use Rattle.std.proofs.Common.{◌≡◌, ◌≢◌, ◌<◌, ◌≤◌, ◌+◌, ◌-◌, ◌*◌, ⊎_elim, ℕ, zero, suc, max, Bool, true, false, ◌&&◌, cond, eqb, ltb, leb, List, [], ◌∷◌, length, get_or, set, drop, Option, None, Some, is_none, refl, sym, ap, subst, ◌∙◌, arith}
+use Rattle.std.proofs.Common.{◌≡◌, ◌<◌, ◌≤◌, ◌+◌, ◌-◌, ◌*◌, ⊎_elim, ℕ, zero, suc, true, ◌&&◌, cond, eqb, leb, List, [], ◌∷◌, length, get_or, set, Option, None, Some, is_none, refl, sym, ap, subst, ◌∙◌, arith}
 use Rattle.std.proofs.lemmas.Bool.{and_parts, cases_lt, eqb-true, ltb-true, lt-ltb}
 use Rattle.std.proofs.lemmas.List.{set_past}
 use Rattle.graph_types.specs.meaning.Graph.{Graph}
 use Rattle.group_window.specs.meaning.Windows.{IsSound, WindowValue, graph_of}
-use Rattle.shard_events.specs.meaning.Rule.{Rule}
 use Rattle.shard_state.specs.meaning.Joining.{shard_at}
-use Rattle.shard_state.specs.meaning.Shards.{ShardValue, empty_shard, pruned}
+use Rattle.shard_state.specs.meaning.Shards.{ShardValue, pruned}
 use Rattle.update_rules.specs.declared.shards.Part.{Part}
 use Rattle.update_rules.specs.meaning.Parts.{parts_between}
 use Rattle.rehearsal.specs.declared.event.Event.{Event}
 use Rattle.rehearsal.specs.declared.event.Event.TheVariants as event
 use Rattle.rehearsal.specs.meaning.MachineState.{MachineState, Stage, Waiting, Live, Explored, Finished}
-use Rattle.rehearsal.specs.meaning.Shown.{shown}
-use Rattle.rehearsal.specs.meaning.Soundness.{IsSoundState, graphs_from}
-use Rattle.rehearsal.specs.meaning.Table.{after, are_for, group_of, group_parts, has_group, holds, is_explored, is_finished, is_live, is_waiting, may, next_parts, no_parts, task_is, with_first_part}
+use Rattle.rehearsal.specs.meaning.Soundness.{IsSoundState}
+use Rattle.rehearsal.specs.meaning.Table.{after, group_of, group_parts, is_explored, is_finished, is_live, is_waiting, may, next_parts, task_is, with_first_part}
 use Rattle.rehearsal.proofs.Leading.{more-left, prune-is, stamp-is, take-is, task-test, task-within}
 use Rattle.rehearsal.proofs.Moving.{explored-is, first-for, live-is, no-parts, none-left, some-left, waiting-is}
 use Rattle.rehearsal.proofs.Showing.{holds-it, holds-none}

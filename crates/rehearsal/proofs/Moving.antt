@@ -1,28 +1,19 @@
 -- That what an event leads to is shown as what its move leads to.
-use Rattle.std.proofs.Common.{◌≡◌, ◌≢◌, ◌<◌, ◌≤◌, ◌+◌, ◌-◌, ⊎_elim, ℕ, suc, Bool, true, false, ◌&&◌, ◌||◌, not, cond, eqb, eq-eqb, ltb, leb, List, [], ◌∷◌, map as mapped, length, get_or, set, take, drop, replicate, Option, None, Some, unwrap_or, is_none, IfSome, IsSome, refl, sym, ap, subst, ◌∙◌, arith}
-use Rattle.std.specs.List.{list_any, range_with_len}
-use Rattle.std.proofs.lemmas.Bool.{and_parts, cases_lt, eqb-true, false≢true, leb-true, ltb-true, lt-ltb, ne_eqb}
-use Rattle.std.proofs.lemmas.List.{append_assoc, drop_more, length-drop, length-map, length-set, map-set, set-get_or, take_all, take_more}
-use Rattle.std.proofs.lemmas.List.Folds.{list_any_more}
+use Rattle.std.proofs.Common.{◌≡◌, ◌<◌, ◌≤◌, ◌+◌, ◌-◌, ℕ, true, false, cond, eqb, List, [], ◌∷◌, length, take, drop, Option, None, Some, unwrap_or, IfSome, IsSome, refl, sym, ap, subst, ◌∙◌, arith}
+use Rattle.std.specs.List.{list_any}
+use Rattle.std.proofs.lemmas.Bool.{eqb-true, false≢true, lt-ltb}
+use Rattle.std.proofs.lemmas.List.{length-drop, take_all}
 use Rattle.graph_types.specs.meaning.Graph.{Graph, empty_graph}
 use Rattle.mining_model.specs.meaning.History.{graph_at}
 use Rattle.group_window.specs.meaning.Windows.{IsSound, WindowValue, graph_of as window_graph}
-use Rattle.shard_events.specs.meaning.Events as move
-use Rattle.shard_events.specs.meaning.Events.{Leads, Take, PutPart, PutPruned, Stamp, Begin, Finish, SeeDone, Raise, SeeFront, with_next_part}
-use Rattle.shard_events.specs.meaning.Machine.{HasPart, Stage as TaskStage, State, part_of_shard, was_put, holder_of as holds_it, stage_of as task_stage, Ingest, Watch, Task as Reads, Waiting as Waits, Live as Lives, Finished as IsDone}
-use Rattle.shard_state.specs.meaning.Joining.{shard_at}
-use Rattle.shard_state.specs.meaning.Shards.{ShardValue, applied, pruned}
-use Rattle.shard_state.specs.meaning.Telling.{graph_of, part_at}
+use Rattle.shard_events.specs.meaning.Machine.{HasPart, part_of_shard}
 use Rattle.update_rules.specs.declared.shards.Part.{Part}
 use Rattle.update_rules.specs.meaning.Parts.{changes_between, part_of, parts_between}
-use Rattle.rehearsal.specs.declared.event.Event.TheVariants as event
 use Rattle.rehearsal.specs.meaning.MachineState.{MachineState, Stage, Waiting, Live, Explored, Finished}
-use Rattle.rehearsal.specs.meaning.Shown.{holder_of, shown, shown_stage, took_in}
-use Rattle.rehearsal.specs.meaning.Soundness.{IsSoundState, graphs_from}
-use Rattle.rehearsal.specs.meaning.Table.{after, are_for, group_of, group_parts, has_group, holds, is_explored, is_finished, is_home, is_live, is_waiting, may, next_parts, no_parts, task_is, with_first_part}
+use Rattle.rehearsal.specs.meaning.Shown.{shown, took_in}
+use Rattle.rehearsal.specs.meaning.Soundness.{graphs_from}
+use Rattle.rehearsal.specs.meaning.Table.{are_for, group_parts, is_explored, is_finished, is_live, is_waiting, next_parts, no_parts}
 use Rattle.rehearsal.proofs.PartRows.{IsMade, first-later, first-least, first-made, list-some, part-among}
-use Rattle.rehearsal.proofs.Rows.{item-mapped, row-of_one, row-same, row-set}
-use Rattle.rehearsal.proofs.Showing.{at-home, group-within, holder-shown, holds-it, holds-none, holds-nothing, no-ingest, no-reader, no-watch, put-shown, stage-shown}
 
 -- a stage that passes a test is that one
 pub waiting-is : (x : Stage) → is_waiting x ≡ true → x ≡ Waiting

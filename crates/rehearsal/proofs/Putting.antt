@@ -1,9 +1,8 @@
 -- That the shard that the ingest holds takes in its part.
-use Rattle.std.proofs.Common.{◌≡◌, ◌<◌, ◌≤◌, ◌+◌, ◌-◌, ◌^◌, ℕ, Bool, true, false, cond, List, [], ◌∷◌, length, get_or, Some, sym, ap, subst, ◌∙◌, arith}
+use Rattle.std.proofs.Common.{◌≡◌, ◌<◌, ◌≤◌, ◌+◌, ℕ, true, false, cond, List, ◌∷◌, length, sym, ap, subst, ◌∙◌, arith}
 use Rattle.graph_types.specs.meaning.Graph.{Graph}
 use Rattle.group_window.specs.meaning.Windows.{IsSound, WindowValue}
-use Rattle.shard_events.specs.meaning.Machine.{HasPart, State, part_of_shard, was_put}
-use Rattle.shard_events.specs.meaning.Rule.{Rule}
+use Rattle.shard_events.specs.meaning.Machine.{part_of_shard, was_put}
 use Rattle.shard_state.specs.calls.Fitting.{Fits}
 use Rattle.shard_state.specs.meaning.Joining.{shard_at}
 use Rattle.shard_state.specs.meaning.Telling.{Tells, part_at}
@@ -12,7 +11,7 @@ use Rattle.update_rules.specs.declared.shards.Part.{Part}
 use Rattle.rehearsal.specs.meaning.MachineState.{MachineState}
 use Rattle.rehearsal.specs.meaning.Shown.{shown, took_in}
 use Rattle.rehearsal.specs.meaning.Soundness.{IsSoundState, graphs_from}
-use Rattle.rehearsal.specs.meaning.Table.{are_for, group_parts, holds, next_parts}
+use Rattle.rehearsal.specs.meaning.Table.{are_for, holds, next_parts}
 use Rattle.rehearsal.proofs.Leading.{group-left, put-within}
 use Rattle.rehearsal.proofs.Moving.{first-for, first-least-parts, first-part, first-unput}
 use Rattle.rehearsal.proofs.Showing.{holds-it, put-shown}

@@ -1,13 +1,13 @@
 -- What a machine shows, field by field.
-use Rattle.std.proofs.Common.{◌≡◌, ◌≢◌, ◌<◌, ◌≤◌, ◌+◌, ◌-◌, ⊎_elim, ℕ, zero, suc, Bool, true, false, ◌&&◌, ◌||◌, not, cond, eqb, ltb, leb, List, [], ◌∷◌, map as mapped, length, get_or, set, take, drop, Option, None, Some, is_none, refl, sym, ap, subst, ◌∙◌, arith}
+use Rattle.std.proofs.Common.{◌≡◌, ◌≢◌, ◌<◌, ◌≤◌, ◌+◌, ◌-◌, ⊎_elim, ℕ, suc, Bool, true, false, not, cond, ltb, leb, ◌∷◌, map as mapped, length, get_or, Option, None, Some, is_none, refl, sym, ap, subst, ◌∙◌, arith}
 use Rattle.std.specs.List.{range_with_len}
 use Rattle.std.proofs.lemmas.Bool.{and_parts, cases_lt, eqb-true, false≢true, leb-true, ltb-true}
-use Rattle.std.proofs.lemmas.List.{get_or_past, length-map}
+use Rattle.std.proofs.lemmas.List.{get_or_past}
 use Rattle.std.proofs.lemmas.List.FromFn.{length-map-range_with_len}
 use Rattle.graph_types.specs.meaning.Graph.{Graph}
 use Rattle.group_window.specs.meaning.Windows.{WindowValue}
-use Rattle.shard_events.specs.meaning.Machine.{Actor, HoldsNone, Stage as TaskStage, State, holder_of as holds_it, stage_of as task_stage, was_put, Ingest, Watch, Task as Reads, Waiting as Waits, Live as Lives, Finished as IsDone}
-use Rattle.rehearsal.specs.meaning.MachineState.{MachineState, Stage, Finished}
+use Rattle.shard_events.specs.meaning.Machine.{Actor, HoldsNone, holder_of as holds_it, stage_of as task_stage, was_put, Ingest, Watch, Task as Reads, Finished as IsDone}
+use Rattle.rehearsal.specs.meaning.MachineState.{MachineState, Finished}
 use Rattle.rehearsal.specs.meaning.Shown.{holder_of, shown, shown_stage, took_in}
 use Rattle.rehearsal.specs.meaning.Soundness.{graphs_from}
 use Rattle.rehearsal.specs.meaning.Table.{group_of, has_group, holds, is_home}

@@ -1,5 +1,5 @@
 -- That shards which tell the graphs, each up to where it took them in, show a live task those before and after its group.
-use Rattle.std.proofs.Common.{◌≡◌, ◌≢◌, ◌<◌, ◌≤◌, ◌+◌, ◌-◌, ◌%◌, ⊎_elim, ℕ, suc, Bool, true, false, cond, min, List, [], ◌∷◌, length, get_or, ◌&&◌, is_none, refl, sym, ap, subst, ◌∙◌, arith}
+use Rattle.std.proofs.Common.{◌≡◌, ◌<◌, ◌≤◌, ◌+◌, ◌-◌, ◌%◌, ⊎_elim, ℕ, suc, true, false, cond, min, List, [], ◌∷◌, length, get_or, ◌&&◌, is_none, sym, ap, subst, ◌∙◌, arith}
 use Rattle.std.specs.List.{AllByRecursion}
 use Rattle.std.proofs.lemmas.Bool.{and_parts, cases_lt}
 use Rattle.graph_types.specs.meaning.Graph.{Graph}

@@ -391,7 +391,7 @@ fn waiting_tasks(alloc: Global, count: usize) -> Result<Vec<Task>, NoMemory>
     ensures { IfOk result (λ tasks. tasks.items ≡ replicate count task.Waiting) }
 {
     let mut tasks = Vec::new(alloc);
-    for i in 0..count {
+    for _ in 0..count {
         tasks.push(Task::Waiting)?;
     }
     Ok(tasks)

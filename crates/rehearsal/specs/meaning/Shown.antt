@@ -1,5 +1,5 @@
 -- The machine of events that a rehearsed one shows: what it does is what the rule speaks of.
-use Rattle.std.specs.Prelude.{ℕ, ◌+◌, Bool, true, false, cond, List, [], ◌∷◌, map as mapped, length, take, Option, None, Some}
+use Rattle.std.specs.Prelude.{ℕ, ◌+◌, Bool, cond, List, [], ◌∷◌, map as mapped, length, take, Option, None, Some}
 use Rattle.std.specs.List.{list_any, range_with_len}
 use Rattle.std.specs.Prelude.{eqb}
 use Rattle.group_window.specs.meaning.Windows.{WindowValue}

@@ -4,5 +4,5 @@ use Rattle.rehearsal.specs.declared.task.Task.{Task}
 use Rattle.rehearsal.specs.declared.task.Task.TheVariants as task
 use Rattle.rehearsal.proofs.machine.waiting_tasks.Goals as goal
 
-pub loop-i-preserved : goal.loop-i-preserved
-loop-i-preserved c = c.in_ok-push.ensures.items ∙ ap (λ (ts : List Task). ts ++ task.Waiting ∷ []) c.loop-i.invariant ∙ replicate_more c.loop-i.i task.Waiting
+pub loop-preserved : goal.loop-preserved
+loop-preserved c = c.in_ok-push.ensures.items ∙ ap (λ (ts : List Task). ts ++ task.Waiting ∷ []) c.loop.invariant ∙ replicate_more c.loop.counter task.Waiting

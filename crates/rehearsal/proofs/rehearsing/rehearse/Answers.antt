@@ -1,11 +1,11 @@
-use Rattle.std.proofs.Common.{◌≡◌, ◌<◌, ◌++◌, List, [], ◌∷◌, filter, length, true, Err, None, Some, refl, sym, ap, subst, ◌∙◌}
+use Rattle.std.proofs.Common.{◌≡◌, ◌<◌, ◌++◌, List, length, Err, None, Some, refl, sym, ap, subst, ◌∙◌}
 use Rattle.std.proofs.lemmas.Bool.{false≢true}
 use Rattle.cond_eval.specs.meaning.Patterns.{pattern_of}
 use Rattle.rehearsal.specs.declared.event.Event.{Event}
 use Rattle.rehearsal.specs.declared.machine.MachineStop.{MachineStop}
-use Rattle.rehearsal.specs.meaning.MachineState.{MachineState, first_state, state_of}
+use Rattle.rehearsal.specs.meaning.MachineState.{first_state, state_of}
 use Rattle.rehearsal.specs.meaning.Schedules.{Schedules, chosen, digit_of}
-use Rattle.rehearsal.specs.meaning.Table.{all_events, enabled, may}
+use Rattle.rehearsal.specs.meaning.Table.{enabled}
 use Rattle.rehearsal.proofs.Choosing.{all-stages, chosen-is, chosen-may, none-chosen, schedule-ends, schedule-next, tasks-many}
 use Rattle.rehearsal.proofs.Ending.{all-finished, mined}
 use Rattle.rehearsal.proofs.Measure.{left-less, left_of}

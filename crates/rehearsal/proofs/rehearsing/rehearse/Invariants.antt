@@ -1,11 +1,10 @@
-use Rattle.std.proofs.Common.{◌≡◌, ◌++◌, List, length}
+use Rattle.std.proofs.Common.{◌++◌, List, length}
 use Rattle.cond_eval.specs.meaning.Patterns.{pattern_of}
 use Rattle.graph_types.specs.meaning.Graph.{Graph}
 use Rattle.rehearsal.specs.declared.event.Event.{Event}
 use Rattle.rehearsal.specs.meaning.MachineState.{MachineState, first_state, state_of}
 use Rattle.rehearsal.specs.meaning.Schedules.{Schedules}
 use Rattle.rehearsal.specs.meaning.Soundness.{IsSoundMachine}
-use Rattle.rehearsal.specs.meaning.Table.{all_events}
 use Rattle.window_miner.specs.calls.Mining.{FollowsShards}
 use Rattle.rehearsal.proofs.Measure.{left_of}
 use Rattle.rehearsal.proofs.rehearsing.rehearse.Given as goal

@@ -1,4 +1,4 @@
-use Rattle.std.proofs.Common.{◌+◌, ap, sym, ◌∙◌, arith}
+use Rattle.std.proofs.Common.{◌+◌, ap, ◌∙◌, arith}
 use Rattle.rehearsal.specs.meaning.Kinds.{event_of_task}
 use Rattle.rehearsal.proofs.Growing.{listed-next}
 use Rattle.rehearsal.proofs.listing.TaskKind.add_all.Goals as goal

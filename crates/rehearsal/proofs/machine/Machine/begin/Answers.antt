@@ -1,4 +1,4 @@
-use Rattle.std.proofs.Common.{◌≡◌, List, map as mapped, set, ap, ◌∙◌}
+use Rattle.std.proofs.Common.{map as mapped, set, ap, ◌∙◌}
 use Rattle.std.proofs.lemmas.List.{map-set}
 use Rattle.rehearsal.specs.meaning.MachineState.{Live, stage_of, state_of}
 use Rattle.rehearsal.specs.declared.task.Task.TheVariants as task

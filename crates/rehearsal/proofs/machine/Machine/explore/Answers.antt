@@ -1,4 +1,4 @@
-use Rattle.std.proofs.Common.{◌≡◌, ◌<◌, map as mapped, set, length, get_or, sym, ap, ◌&&◌, is_none, ◌∙◌, arith}
+use Rattle.std.proofs.Common.{◌≡◌, map as mapped, set, length, get_or, sym, ap, ◌&&◌, is_none, ◌∙◌, arith}
 use Rattle.std.proofs.lemmas.Bool.{and_parts}
 use Rattle.std.proofs.lemmas.List.{length-map, map-set}
 use Rattle.cond_eval.specs.meaning.Patterns.{pattern_of}

@@ -1,7 +1,7 @@
 use Rattle.std.proofs.Common.{◌≡◌, List, map as mapped, replicate, ap, ◌∙◌}
 use Rattle.rehearsal.specs.declared.task.Task.{Task}
 use Rattle.rehearsal.specs.declared.task.Task.TheVariants as task
-use Rattle.rehearsal.specs.meaning.MachineState.{Stage, Waiting, first_state, stage_of, state_of}
+use Rattle.rehearsal.specs.meaning.MachineState.{Waiting, first_state, stage_of}
 use Rattle.rehearsal.proofs.Beginning.{mapped-replicate, sound-begun}
 use Rattle.rehearsal.proofs.Stages.{with_stages}
 use Rattle.rehearsal.proofs.machine.Machine.new.Goals as goal

@@ -1,14 +1,13 @@
 use Rattle.std.specs.Result.{OnErr}
-use Rattle.std.proofs.Common.{Result, Ok, Err, ◌≡◌, ◌<◌, ◌≤◌, ◌+◌, List, [], ◌∷◌, length, drop, get_or, refl, sym, ap, subst, ◌∙◌, arith}
-use Rattle.std.proofs.lemmas.List.{drop_more, get_or_default}
-use Rattle.shard_state.specs.meaning.Joining.{shard_at}
+use Rattle.std.proofs.Common.{Result, Ok, Err, ◌≡◌, ◌≤◌, List, [], ◌∷◌, length, drop, get_or, sym, ap, subst, ◌∙◌, arith}
+use Rattle.std.proofs.lemmas.List.{get_or_default}
 use Rattle.shard_state.specs.meaning.Shards.{ShardValue, empty_shard}
 use Rattle.shard_state.specs.calls.Fitting.{Fits}
 use Rattle.update_rules.specs.declared.shards.Part.{Part}
 use Rattle.rehearsal.specs.meaning.MachineState.{state_of}
 use Rattle.rehearsal.specs.meaning.Table.{next_parts}
 use Rattle.rehearsal.proofs.Moving.{first-for}
-use Rattle.rehearsal.proofs.Putting.{few-parts, fits, for-it, group-more, there}
+use Rattle.rehearsal.proofs.Putting.{few-parts, fits, for-it, there}
 use Rattle.rehearsal.proofs.SameVec.{same-item}
 use Rattle.rehearsal.proofs.machine.Machine.put_part.Goals as goal
 

@@ -1,5 +1,4 @@
 use Rattle.std.proofs.Common.{arith}
-use Rattle.rehearsal.specs.meaning.MachineState.{state_of}
 use Rattle.rehearsal.proofs.Showing.{holds-it}
 use Rattle.rehearsal.proofs.machine.Machine.put_pruned.Goals as goal
 
