@@ -33,8 +33,8 @@ pub struct Rehearsed {
 /// next digit, or 0 after the last, chooses among the events that may happen. It ends where none may. Of what a group
 /// takes away and brings at most `most` pieces are listed. Out of memory takes the shards along.
 ///
-/// A turn takes time linear in the number of shards and of groups, beside what its event takes. There are at most four
-/// turns for each task, two for each shard and group, and what the fronts take.
+/// A turn takes time linear in the number of shards and of groups, beside what its event takes. There are at most seven
+/// turns for each group, and four more for each shard.
 pub fn rehearse(
     alloc: Global,
     shards: Vec<Shard>,
