@@ -1,15 +1,12 @@
 -- What is known of each entry after a step of one cell.
-use Rattle.std.proofs.Common.{◌≡◌, ◌≤◌, ℕ, true, false, cond, eqb, List, [], max, IfSome, Option, None, Some, refl, sym, ap, subst, ◌∙◌, arith}
+use Rattle.std.proofs.Common.{◌≡◌, ◌≤◌, ◌<◌, ◌%◌, ℕ, true, false, cond, eqb, [], max, IfSome, Option, None, Some, refl, sym, ap, subst, ◌∙◌, arith}
 use Rattle.std.specs.Cmp.{nat_cmp_total, tied_itself}
 use Rattle.std.specs.FinMap as map
-use Rattle.std.specs.BTreeMap.{is_at}
-use Rattle.std.specs.Map.{lookup}
 use Rattle.std.specs.Option.{option_cmp}
 use Rattle.std.specs.Ordering.{eq_by_cmp, is_eq, nat_cmp, ordering_then}
 use Rattle.std.specs.declared.cmp.Ordering.TheVariants.{Less, Equal, Greater}
-use Rattle.std.proofs.lemmas.Bool.{false≢true}
+use Rattle.std.proofs.lemmas.Bool.{eqb-true, false≢true}
 use Rattle.graph_types.proofs.Rows.{nat-test}
-use Rattle.graph_types.proofs.Views.{get-seen, written-seen}
 use Rattle.shared_lemmas.proofs.Orderings.{same_item}
 use Rattle.update_rules.specs.declared.changes.Change.{Change}
 use Rattle.update_rules.specs.declared.changes.Change.TheVariants.{Label, Near}
@@ -23,7 +20,11 @@ use Rattle.version_cell.proofs.Labels.{near-neighbourhood_after}
 use Rattle.shard_state.specs.calls.CellChanges.{FoldsCell, KeepsEntries, NotesVersion, noted_at, noted_in_cell}
 use Rattle.shard_state.specs.meaning.Shards.{place_of, version_of}
 use Rattle.shard_state.specs.meaning.Versions.{Versions, folded_to, no_versions, with_version}
+use Rattle.shard_state.specs.declared.class.Class.{Class}
 use Rattle.shard_state.specs.storage.Cells.{Cells, floor_in, floor_known, room_in, room_in_cell, room_known, versions_in, versions_in_cell, versions_known}
+use Rattle.shard_state.specs.storage.KeyedCells.{Owns, cells_of}
+use Rattle.shard_state.specs.storage.Keys.{key_of}
+use Rattle.shard_state.proofs.CellKeys.{cells-insert, cells-remove, get-foreign, get-owned}
 
 -- the vertex of a changed entry is that of its place
 pub vertex-place_of : (change : Change) → (place_of change).0 ≡ vertex_of change
@@ -153,6 +154,9 @@ KeepsEntries-then a b c first second = record {
   floors = λ v. second.floors v ∙ first.floors v;
 }
 
+pub get-inserted : (cells : Cells) (v : ℕ) (cell : Timeline) → map.get (map.insert cells v cell) v ≡ Some cell
+get-inserted cells v cell = map.get-insert nat_cmp_total cells v cell v ∙ ap (λ r. cond (is_eq r) (Some cell) (map.get cells v)) (tied_itself nat_cmp_total v)
+
 -- a cell that is there is changed
 module _ (cells : Cells) (v : ℕ) (old new : Timeline) (was : map.get cells v ≡ Some old) where
   pub KeepsEntries-kept : KeepsVersions old new → KeepsEntries cells (map.insert cells v new)
@@ -265,42 +269,64 @@ module _ (old cells : Cells) (v f : ℕ) (folds : FoldsCell old cells v f) (noth
     floors = λ w apart. ap floor_known (get-other w apart) ∙ folds.floors w apart;
   }
 
--- a cell among entries is written to
-module _ (es left : List (ℕ × Timeline)) (v : ℕ) (old new : Timeline) (was : lookup (is_at (nat_cmp v)) es ≡ Some old)
-    (is : (q : ℕ) → lookup (is_at (nat_cmp q)) left ≡ cond (is_at (nat_cmp v) q) (Some new) (lookup (is_at (nat_cmp q)) es)) where
-  pub had : map.get (map.from_entries {R = nat_cmp} es) v ≡ Some old
-  had = sym (get-seen nat_cmp_total v es) ∙ was
+-- a vertex with its key
+module _ (class : Class) (items : Cells) (v key : ℕ) (own : Owns class v) (at_key : key ≡ key_of class.shards v) where
+  pub get-at_key : map.get (cells_of class items) v ≡ map.get items key
+  get-at_key = get-owned class items v own ∙ ap (map.get items) (sym at_key)
 
-  wrote : map.from_entries {R = nat_cmp} left ≡ map.insert (map.from_entries es) v new
-  wrote = written-seen nat_cmp_total map.nat_cmp-IsAntisymmetric es left v new is
+  pub put-at_key : (cell : Timeline) → cells_of class (map.insert items key cell) ≡ map.insert (cells_of class items) v cell
+  put-at_key cell = ap (λ k. cells_of class (map.insert items k cell)) at_key ∙ cells-insert class items v own cell
+
+  pub taken-at_key : cells_of class (map.remove items key) ≡ map.remove (cells_of class items) v
+  taken-at_key = ap (λ k. cells_of class (map.remove items k)) at_key ∙ cells-remove class items v own
+
+  pub has-written : (new : Timeline) → map.get (cells_of class (map.insert items key new)) v ≡ Some new
+  has-written new = ap (λ m. map.get m v) (put-at_key new) ∙ get-inserted (cells_of class items) v new
+
+-- the cell that is there is written to
+module _ (class : Class) (items : Cells) (v key : ℕ) (own : Owns class v) (at_key : key ≡ key_of class.shards v) (old new : Timeline) (was : map.get items key ≡ Some old) where
+  had : map.get (cells_of class items) v ≡ Some old
+  had = get-at_key class items v key own at_key ∙ was
+
+  wrote : cells_of class (map.insert items key new) ≡ map.insert (cells_of class items) v new
+  wrote = put-at_key class items v key own at_key new
 
   -- as it was
-  pub same-written : new ≡ old → map.from_entries {R = nat_cmp} left ≡ map.from_entries {R = nat_cmp} es
+  pub same-written : new ≡ old → cells_of class (map.insert items key new) ≡ cells_of class items
   same-written same =
       map.same_map nat_cmp_total map.nat_cmp-IsAntisymmetric _ _ (λ q.
       ap (λ m. map.get m q) wrote
-      ∙ map.get-insert nat_cmp_total (map.from_entries {R = nat_cmp} es) v new q
-      ∙ elim (eq_by_cmp nat_cmp q v) as (λ b. eq_by_cmp nat_cmp q v ≡ b → cond b (Some new) (map.get (map.from_entries {R = nat_cmp} es) q) ≡ map.get (map.from_entries {R = nat_cmp} es) q) [
-        | true ↦ λ tied. ap Some same ∙ sym had ∙ ap (map.get (map.from_entries {R = nat_cmp} es)) (sym (same_item map.nat_cmp-IsAntisymmetric q v tied))
+      ∙ map.get-insert nat_cmp_total (cells_of class items) v new q
+      ∙ elim (eq_by_cmp nat_cmp q v) as (λ b. eq_by_cmp nat_cmp q v ≡ b → cond b (Some new) (map.get (cells_of class items) q) ≡ map.get (cells_of class items) q) [
+        | true ↦ λ tied. ap Some same ∙ sym had ∙ ap (map.get (cells_of class items)) (sym (same_item map.nat_cmp-IsAntisymmetric q v tied))
         | false ↦ λ _. refl
       ] refl)
 
-  pub has-written : map.get (map.from_entries {R = nat_cmp} left) v ≡ Some new
-  has-written =
-      ap (λ m. map.get m v) wrote
-      ∙ map.get-insert nat_cmp_total (map.from_entries {R = nat_cmp} es) v new v
-      ∙ ap (λ r. cond (is_eq r) (Some new) (map.get (map.from_entries {R = nat_cmp} es) v)) (tied_itself nat_cmp_total v)
+  pub KeepsEntries-written : KeepsVersions old new → KeepsEntries (cells_of class items) (cells_of class (map.insert items key new))
+  KeepsEntries-written keeps = subst (KeepsEntries (cells_of class items)) (sym wrote) (KeepsEntries-kept (cells_of class items) v old new had keeps)
 
-  pub KeepsEntries-written : KeepsVersions old new → KeepsEntries (map.from_entries es) (map.from_entries left)
-  KeepsEntries-written keeps = subst (KeepsEntries (map.from_entries es)) (sym wrote) (KeepsEntries-kept (map.from_entries es) v old new had keeps)
+  pub NotesVersion-written : (at : ℕ) (change : Change) → vertex_of change ≡ v → new ≡ noted_in_cell at change old →
+      NotesVersion (cells_of class items) (cells_of class (map.insert items key new)) (place_of change) (version_of at change)
+  NotesVersion-written at change same noted =
+      subst (λ m. NotesVersion (cells_of class items) m (place_of change) (version_of at change)) (sym wrote) (NotesVersion-noted (cells_of class items) v old new had at change same noted)
 
-  pub NotesVersion-written : (at : ℕ) (change : Change) → vertex_of change ≡ v → new ≡ noted_in_cell at change old → NotesVersion (map.from_entries es) (map.from_entries left) (place_of change) (version_of at change)
-  NotesVersion-written at change own noted =
-      subst (λ m. NotesVersion (map.from_entries es) m (place_of change) (version_of at change)) (sym wrote) (NotesVersion-noted (map.from_entries es) v old new had at change own noted)
-
-  pub FoldsCell-written : (f : ℕ) → IsFolded old f new → FoldsCell (map.from_entries es) (map.from_entries left) v f
-  FoldsCell-written f folded = subst (λ m. FoldsCell (map.from_entries es) m v f) (sym wrote) (FoldsCell-folded (map.from_entries es) v old new had f folded)
+  pub FoldsCell-written : (f : ℕ) → IsFolded old f new → FoldsCell (cells_of class items) (cells_of class (map.insert items key new)) v f
+  FoldsCell-written f folded = subst (λ m. FoldsCell (cells_of class items) m v f) (sym wrote) (FoldsCell-folded (cells_of class items) v old new had f folded)
 
 -- what is known where a change is
-pub cell-at : (cells : Cells) (v : ℕ) (change : Change) (o : Option Timeline) → vertex_of change ≡ v → map.get cells v ≡ o → map.get cells (place_of change).0 ≡ o
-cell-at cells v change o own is = ap (map.get cells) (vertex-place_of change ∙ own) ∙ is
+pub cell-at : (cells : Cells) (change : Change) (o : Option Timeline) → map.get cells (vertex_of change) ≡ o → map.get cells (place_of change).0 ≡ o
+cell-at cells change o is = ap (map.get cells) (vertex-place_of change) ∙ is
+
+-- where there is room, the vertex is one of the class
+pub Owns-room : (class : Class) (items : Cells) (change : Change) → 0 < room_in (cells_of class items) (place_of change) → Owns class (vertex_of change)
+Owns-room class items change room = elim (eqb (vertex_of change % class.shards) class.number) as (λ b. eqb (vertex_of change % class.shards) class.number ≡ b → Owns class (vertex_of change)) [
+  | true ↦ λ test. eqb-true _ _ test
+  | false ↦ λ apart.
+      let none : 0 < 0 = subst (λ o. 0 < room_known o (place_of change).1) (cell-at (cells_of class items) change None (get-foreign class items (vertex_of change) apart)) room in
+      absurd (omega (arith, none))
+] refl
+
+-- and the cell at its key is the one with the room
+pub get-with_room : (class : Class) (items : Cells) (change : Change) (v key : ℕ) → v ≡ vertex_of change → key ≡ key_of class.shards v → 0 < room_in (cells_of class items) (place_of change) →
+    map.get (cells_of class items) (vertex_of change) ≡ map.get items key
+get-with_room class items change v key same at_key room = get-at_key class items (vertex_of change) key (Owns-room class items change room) (at_key ∙ ap (key_of class.shards) same)

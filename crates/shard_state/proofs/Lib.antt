@@ -1,6 +1,7 @@
 pub mod KnownMaps
 pub mod Knowing
 pub mod CellEntries
+pub mod CellKeys
 pub mod CellSteps
 pub mod Noting
 pub mod Histories

@@ -4,6 +4,7 @@
 
 mod applying;
 mod cells;
+mod class;
 pub mod laws;
 mod owned_view;
 mod shard;

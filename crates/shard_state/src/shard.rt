@@ -7,6 +7,7 @@ ghost use Rattle.shard_state.specs.meaning.Shards.{IsInOrder, applied, empty_sha
 
 use crate::applying::{fold_touched, note_each, reserve_each};
 use crate::cells::Cells;
+use crate::class::Class;
 use crate::touched::Touched;
 use graph_types::{List, NearList, NoMemory, Pair, Stamp, VertexId};
 use std::alloc::Global;
@@ -17,11 +18,12 @@ use update_rules::Part;
 /// it tells what stood at each timestamp.
 ///
 /// Each vertex has a cell, and a list has which of them changed since the floor, so that a prune need not go
-/// through the others.
+/// through the others. A look-up of a vertex takes constant time where it is below 4,194,304, and else time
+/// logarithmic in the number of vertices. For the former each shard has a table, which grows with the greatest of
+/// them; those of all shards together take 32 MB at most.
 #[derive(Drop)]
 pub struct Shard {
-    number: u32,
-    shards: u32,
+    class: Class,
     upto: Stamp,
     floor: Stamp,
     cells: Cells,
@@ -34,15 +36,16 @@ pub type ShardList = List<Shard>;
 impl Model for Shard {
     ghost use Rattle.shard_state.specs.meaning.Shards.{ShardValue, shard_code};
     ghost use Rattle.shard_state.specs.storage.Cells.{entries_of};
+    ghost use Rattle.shard_state.specs.storage.KeyedCells.{cells_of};
     ghost use Rattle.shard_state.specs.storage.Touched.{IsStored};
 
     ghost Value = { ShardValue };
 
     ghost coded = { shard_code };
 
-    ghost view = { λ s. record { number = s.number; shards = s.shards; upto = s.upto; floor = s.floor; entries = entries_of s.cells } };
+    ghost view = { λ s. record { number = s.class.number; shards = s.class.shards; upto = s.upto; floor = s.floor; entries = entries_of (cells_of s.class s.cells) } };
 
-    ghost invariant = { λ s. IsStored s.floor s.upto s.cells s.touched.touches };
+    ghost invariant = { λ s. IsStored s.floor s.upto (cells_of s.class s.cells) s.touched.touches };
 }
 
 impl Shard {
@@ -52,8 +55,7 @@ impl Shard {
         ensures { result ≡ empty_shard number shards }
     {
         Shard {
-            number,
-            shards,
+            class: Class::new(number, shards),
             upto: Stamp(0),
             floor: Stamp(0),
             cells: Cells::new(alloc),
@@ -65,14 +67,14 @@ impl Shard {
     pub fn number(&self) -> u32
         ensures { result ≡ self.now.number }
     {
-        self.number
+        self.class.number
     }
 
     /// How many shards there are.
     pub fn shards(&self) -> u32
         ensures { result ≡ self.now.shards }
     {
-        self.shards
+        self.class.shards
     }
 
     /// The timestamp of the last part that it took in, 0 before the first.
@@ -89,8 +91,9 @@ impl Shard {
         self.floor
     }
 
-    /// Takes in what changed at its vertices at a timestamp. Out of memory leaves what it tells. Takes time
-    /// logarithmic in the number of vertices and of the neighbours for each change.
+    /// Takes in what changed at its vertices at a timestamp. Out of memory leaves what it tells. Takes two look-ups
+    /// for each change, and time logarithmic in the number of neighbours of its vertex. A new vertex takes two
+    /// look-ups more, memory for its cell, and its part of the growth of the table.
     pub fn apply(&mut self, part: &Part, at: Stamp) -> Result<(), NoMemory>
         requires { Fits self.old part.now at }
         ensures ok { OnOk result (self.new ≡ applied self.old part.now.changes at) }
@@ -98,8 +101,8 @@ impl Shard {
     {
         let changes = part.changes.as_slice();
         self.touched.reserve(changes.len())?;
-        reserve_each(&mut self.cells, changes)?;
-        note_each(&mut self.cells, &mut self.touched, changes, at);
+        reserve_each(&mut self.cells, self.class, changes)?;
+        note_each(&mut self.cells, self.class, &mut self.touched, changes, at);
         self.upto = at;
         Ok(())
     }
@@ -111,7 +114,7 @@ impl Shard {
         requires { self.now.floor < t }
         ensures { IfOk result (λ pair. pair ≡ pair_of_vertex self.now v t) }
     {
-        match self.cells.get(v) {
+        match self.cells.get(self.class, v) {
             Some(cell) => cell.pair(alloc, t),
             None => Ok(nothing(alloc)),
         }
@@ -130,7 +133,7 @@ impl Shard {
         requires ascending { IsStrictlySortedBy nat_cmp among.now }
         ensures { IfOk result (λ pair. pair ≡ kept_among among.now (pair_of_vertex self.now v t)) }
     {
-        match self.cells.get(v) {
+        match self.cells.get(self.class, v) {
             Some(cell) => cell.pair_among(alloc, t, among),
             None => Ok(nothing(alloc)),
         }
@@ -138,7 +141,7 @@ impl Shard {
 
     /// About how many neighbours a vertex has, with a look-up. It is a hint, and promises nothing.
     pub fn size(&self, v: VertexId) -> usize {
-        match self.cells.get(v) {
+        match self.cells.get(self.class, v) {
             Some(cell) => cell.size(),
             None => 0,
         }
@@ -152,7 +155,7 @@ impl Shard {
         ensures one_version { IsInOrder self.new }
     {
         let floor = greater(self.floor, f);
-        fold_touched(&mut self.cells, &mut self.touched, floor);
+        fold_touched(&mut self.cells, self.class, &mut self.touched, floor);
         self.floor = floor;
     }
 
