@@ -1,5 +1,5 @@
-pub mod BegunLine
-pub mod ListedLine
+pub mod Digits
+pub mod Members
 pub mod PieceLines
 pub mod Pieces
 pub mod Words

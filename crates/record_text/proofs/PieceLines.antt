@@ -1,5 +1,6 @@
 -- Lines of pieces, one after another.
-use Rattle.std.proofs.Common.{◌≡◌, ℕ, ◌+◌, ◌<◌, List, ◌++◌, length, take, drop, get_or, Option, refl, sym, ap, ◌∙◌, subst, append_assoc}
+use Rattle.std.proofs.Common.{◌≡◌, ℕ, zero, suc, ◌+◌, ◌<◌, List, [], ◌∷◌, ◌++◌, length, take, drop, get_or, Option, Some, refl, sym, ap, ◌∙◌, subst, append_assoc, append-nil, add-one}
+use Rattle.std.specs.Prelude.{slice_get}
 use Rattle.std.specs.List.{flat_map}
 use Rattle.std.proofs.lemmas.List.{take-append-drop}
 use Rattle.std.proofs.lemmas.List.Folds.{flat_map-map}
@@ -9,7 +10,16 @@ use Rattle.graph_types.specs.declared.member.Member.{Member}
 use Rattle.graph_types.specs.meaning.Piece.{PieceValue, members_of_all}
 use Rattle.job_io.specs.calls.Ends.{AppendsPrefix, PassesOn}
 use Rattle.job_io.proofs.Gathering.{PassesOn-then, AppendsFront-then, AppendsFront-more}
-use Rattle.record_text.proofs.BegunLine.{flat_map-take_more}
+
+module _ {A B : Type 0} (f : A → List B) where
+  flat_map-take_suc : (xs : List A) (i : ℕ) (x : A) → slice_get xs i ≡ Some x → flat_map f (take (suc i) xs) ≡ flat_map f (take i xs) ++ f x
+  flat_map-take_suc [] i x at = cc
+  flat_map-take_suc (y ∷ ys) zero x at = append-nil (f y) ∙ ap f (let e : y ≡ x = cc in e)
+  flat_map-take_suc (y ∷ ys) (suc i) x at = ap (λ zs. f y ++ zs) (flat_map-take_suc ys i x at) ∙ sym (append_assoc (f y) _ (f x))
+
+  -- one item more of a list
+  flat_map-take_more : (xs : List A) (i : ℕ) (x : A) → slice_get xs i ≡ Some x → flat_map f (take (i + 1) xs) ≡ flat_map f (take i xs) ++ f x
+  flat_map-take_more xs i x at = rw add-one (flat_map-take_suc xs i x at)
 
 module _ (line_with : List Member → List ℕ) where
   abbrev line_of : PieceValue → List ℕ

@@ -4,6 +4,7 @@
 
 pub mod laws;
 mod line;
+mod line_end;
 mod read;
 mod record_format;
 mod write;

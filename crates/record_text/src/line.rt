@@ -1,86 +1,84 @@
-ghost use Rattle.std.specs.Prelude.{◌≡◌, ◌+◌, ◌≤◌, ◌++◌, length, take};
-ghost use Rattle.record_text.specs.meaning.Text.{done_text, member_text, record_line, after_space};
-ghost use Rattle.record_text.specs.meaning.Listing.{members_text, piece_line};
+ghost use Rattle.std.specs.Prelude.{◌≡◌, ◌+◌, ◌≤◌, ◌++◌, codes, decimal, length};
+ghost use Rattle.std.specs.List.{flat_map};
+ghost use Rattle.record_text.specs.meaning.Text.{done_text, member_text, after_space};
+ghost use Rattle.record_text.specs.meaning.Listing.{piece_line};
 
+use crate::line_end::{LINE_BYTES, LineEnd};
 use graph_types::{Member, Piece, Stamp};
-use job_io::{SHORT_LINE_BYTES, ShortLine};
 
-/// The line of a record: at most 201 bytes.
-pub fn record(word: &[u8; 3], t: Stamp, piece: &Piece) -> ShortLine
-    ensures { result ≡ record_line word.now t piece.now.members }
+/// Makes what a record begins with: at most 24 bytes.
+pub fn fill_start(line: &mut LineEnd, word: &[u8; 3], t: Stamp)
+    ensures text { line.new ≡ word.now ++ after_space (decimal t) }
+    ensures short { length line.new ≤ 24 }
 {
-    let mut line = ShortLine::new();
-    line.push(word);
-    line.push(b" ");
-    line.push_number(t.0);
-    for i in 0..piece.len() {
-        push_spaced(&mut line, piece.get(i).unwrap());
-    }
-    line.push(b"\n");
-    line
+    line.clear();
+    line.prepend_number(t.0);
+    line.prepend_byte(b' ');
+    line.prepend(word);
 }
 
-/// The line of a piece in a listing: at most 168 bytes.
-pub fn listed(piece: &Piece) -> ShortLine
-    ensures { result ≡ piece_line piece.now.members }
+/// Makes the line of a record that begins so: at most 201 bytes.
+pub fn fill_record(line: &mut LineEnd, start: &[u8], piece: &Piece)
+    requires { length start.now ≤ 24 }
+    ensures { line.new
+        ≡ start.now ++ flat_map (λ m. after_space (member_text m)) piece.now.members ++ codes "\n" }
 {
-    let mut line = begin_listed(piece);
-    for place in 1..piece.len() {
-        push_spaced(&mut line, piece.get(place).unwrap());
-    }
-    line.push(b"\n");
-    line
+    fill_members(line, piece);
+    line.prepend(start);
 }
 
-/// The line that closes a timestamp: at most 47 bytes.
-pub fn done(t: Stamp, count: Option<u64>) -> ShortLine
-    ensures { result ≡ done_text t count }
+/// Makes the line of a piece in a listing: at most 176 bytes.
+pub fn fill_listed(line: &mut LineEnd, piece: &Piece)
+    ensures { line.new ≡ piece_line piece.now.members }
 {
-    let mut line = ShortLine::new();
-    line.push(b"DONE ");
-    line.push_number(t.0);
+    fill_members(line, piece);
+    if !piece.is_empty() {
+        line.drop_first();
+    }
+}
+
+/// Makes the line that closes a timestamp: at most 47 bytes.
+pub fn fill_done(line: &mut LineEnd, t: Stamp, count: Option<u64>)
+    ensures { line.new ≡ done_text t count }
+{
+    line.clear();
+    line.prepend_byte(b'\n');
     if let Some(count) = count {
-        line.push(b" ");
-        line.push_number(count);
+        line.prepend_number(count);
+        line.prepend_byte(b' ');
     }
-    line.push(b"\n");
-    line
+    line.prepend_number(t.0);
+    line.prepend(b"DONE ");
 }
 
-/// A line with the first member of a piece, if it has any.
-fn begin_listed(piece: &Piece) -> ShortLine
-    ensures text { result ≡ members_text (take 1 piece.now.members) }
-    ensures short { length result ≤ 41 }
+/// Makes a line of each member after a space: at most 177 bytes.
+fn fill_members(line: &mut LineEnd, piece: &Piece)
+    ensures text { line.new
+        ≡ flat_map (λ m. after_space (member_text m)) piece.now.members ++ codes "\n" }
+    ensures short { length line.new ≤ 177 }
 {
-    let mut line = ShortLine::new();
-    let Some(first) = piece.get(0) else {
-        return line;
-    };
-    push_member(&mut line, first);
-    line
+    line.clear();
+    line.prepend_byte(b'\n');
+    let mut place = piece.len();
+    while place > 0 {
+        place -= 1;
+        prepend_spaced(line, piece.get(place).unwrap());
+    }
 }
 
-/// Adds a space and the member.
-fn push_spaced(line: &mut ShortLine, member: Member)
-    requires { length line.old + 42 ≤ SHORT_LINE_BYTES }
-    ensures text { line.new ≡ line.old ++ after_space (member_text member) }
-    ensures short { length line.new ≤ length line.old + 42 }
-{
-    line.push(b" ");
-    push_member(line, member);
-}
-
-fn push_member(line: &mut ShortLine, member: Member)
-    requires { length line.old + 41 ≤ SHORT_LINE_BYTES }
-    ensures text { line.new ≡ line.old ++ member_text member }
-    ensures short { length line.new ≤ length line.old + 41 }
+/// Puts a space and the member before the line.
+fn prepend_spaced(line: &mut LineEnd, member: Member)
+    requires { length line.old + 22 ≤ LINE_BYTES }
+    ensures text { line.new ≡ after_space (member_text member) ++ line.old }
+    ensures short { length line.new ≤ length line.old + 22 }
 {
     match member {
-        Member::Vertex(v) => line.push_number(u64::from(v.0)),
+        Member::Vertex(v) => line.prepend_id(v.0),
         Member::Edge(e) => {
-            line.push_number(u64::from(e.a().0));
-            line.push(b"-");
-            line.push_number(u64::from(e.b().0));
+            line.prepend_id(e.b().0);
+            line.prepend_byte(b'-');
+            line.prepend_id(e.a().0);
         }
     }
+    line.prepend_byte(b' ');
 }

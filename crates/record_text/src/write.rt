@@ -4,7 +4,8 @@ ghost use Rattle.job_io.specs.calls.Ends.{Gathers, HasCause};
 ghost use Rattle.record_text.specs.meaning.Text.{delta_text, done_text, head_text, records_text};
 ghost use Rattle.record_text.specs.meaning.Listing.{listing_text};
 
-use crate::line::{done, listed, record};
+use crate::line::{fill_done, fill_listed, fill_record, fill_start};
+use crate::line_end::LineEnd;
 use graph_types::{Piece, PieceList, Stamp};
 use job_io::{Page, Sink, WriteFault};
 
@@ -37,7 +38,9 @@ pub fn write_done<O: Sink>(
         (done_text t count) result }
     ensures cause { HasCause (O.faults out.old) (O.faults out.new) result }
 {
-    page.put(out, &done(t, count))
+    let mut line = LineEnd::new();
+    fill_done(&mut line, t, count);
+    page.put(out, &line)
 }
 
 /// Writes the first line of a text in format 2. What the page still holds is not out yet. Takes no
@@ -68,8 +71,10 @@ fn write_lines<O: Sink>(out: &mut O, page: &mut Page, pieces: &[Piece]) -> Resul
         (listing_text (members_of_all pieces.now)) result }
     ensures cause { HasCause (O.faults out.old) (O.faults out.new) result }
 {
+    let mut line = LineEnd::new();
     for piece in pieces {
-        page.put(out, &listed(piece))?;
+        fill_listed(&mut line, piece);
+        page.put(out, &line)?;
     }
     Ok(())
 }
@@ -85,8 +90,16 @@ fn write_records<O: Sink>(
         (records_text word.now t (members_of_all pieces.now)) result }
     ensures cause { HasCause (O.faults out.old) (O.faults out.new) result }
 {
+    // Most updates of a stream write no record, and pay for no line.
+    if pieces.is_empty() {
+        return Ok(());
+    }
+    let mut start = LineEnd::new();
+    fill_start(&mut start, word, t);
+    let mut line = LineEnd::new();
     for piece in pieces {
-        page.put(out, &record(word, t, piece))?;
+        fill_record(&mut line, &start, piece);
+        page.put(out, &line)?;
     }
     Ok(())
 }

@@ -8,12 +8,12 @@ pub returns-in_err-put-clause-text : goal.returns-in_err-put-clause-text
 returns-in_err-put-clause-text g c =
     let p = err_from_is_err_and c.from_residual.result c.from_residual.ensures.1 in
     let front = fails-at piece_line c.args.pieces.now c.loop-piece.piece-index c.piece-item.result c.deref.result.now _ _ _ _ _
-    c.loop-piece-test.true c.piece-item.is (c.deref.ensures ∙ c.listed.ensures) c.loop-piece.invariant.0 c.in_err-put.ensures.gathered.front in
+    c.loop-piece-test.true c.piece-item.is (c.deref.ensures ∙ c.fill_listed.ensures) c.loop-piece.invariant.0 c.in_err-put.ensures.gathered.front in
     rw p.1 (record { passed = tt; front = front })
 
 pub loop-piece-preserved : goal.loop-piece-preserved
 loop-piece-preserved g c = (
   passed-more piece_line c.args.pieces.now c.loop-piece.piece-index c.piece-item.result c.deref.result.now _ _ _ _ _ _
-      c.loop-piece-test.true c.piece-item.is (c.deref.ensures ∙ c.listed.ensures) c.loop-piece.invariant.0 c.in_ok-put.ensures.gathered.passed,
+      c.loop-piece-test.true c.piece-item.is (c.deref.ensures ∙ c.fill_listed.ensures) c.loop-piece.invariant.0 c.in_ok-put.ensures.gathered.passed,
   omega (arith, c.loop-piece.invariant.1, c.in_ok-put.ensures.cause.kept),
 )
