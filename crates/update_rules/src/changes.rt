@@ -5,7 +5,8 @@ ghost use Rattle.update_rules.specs.calls.Overlays.{IsOverlaid};
 ghost use Rattle.update_rules.specs.meaning.Parts.{changes_between, change_to};
 ghost use Rattle.update_rules.specs.meaning.Places.{entry_at};
 
-use graph_types::{Edge, LabelId, List, NoMemory, Snapshot, VertexId};
+use crate::ChangeList;
+use graph_types::{Edge, LabelId, NoMemory, Snapshot, VertexId};
 use std::alloc::Global;
 use std::collections::BTreeMap;
 
@@ -25,9 +26,6 @@ pub enum Change {
         label: Option<LabelId>,
     },
 }
-
-/// Changes, in an order that the call says.
-pub type ChangeList = List<Change>;
 
 /// Where an entry stands: at a vertex alone its label, at a vertex and another the label of their edge.
 pub type Place = (VertexId, Option<VertexId>);

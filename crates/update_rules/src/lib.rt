@@ -2,13 +2,15 @@
 //! updates changes, and the changes of each shard.
 #![tactic(auto)]
 
+mod change_list;
 mod changes;
 mod net;
 mod shards;
 mod steps;
 mod writes;
 
-pub use changes::{Change, ChangeList, Entries, Place, changes_since, entry};
+pub use change_list::ChangeList;
+pub use changes::{Change, Entries, Place, changes_since, entry};
 pub use net::{net_of, net_of_changes};
 pub use shards::{Part, PartList, parts, parts_of_changes};
 pub use steps::{StepFault, admit, apply, step};

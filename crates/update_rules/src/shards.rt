@@ -10,7 +10,6 @@ use crate::{Change, ChangeList};
 use graph_types::{List, NoMemory, Snapshot, Update, VertexId};
 use std::alloc::Global;
 use std::collections::BTreeMap;
-use std::slice;
 
 /// The changes at the vertices of one shard.
 #[derive(Debug, Drop)]
@@ -43,7 +42,7 @@ pub fn parts(
 }
 
 /// The changes of each shard that has some. Takes a look-up among the shards that have changes for each
-/// change, and constant time for the two of an edge.
+/// change. For the two of an edge it takes constant time, and memory for the list of the parts alone.
 pub fn parts_of_changes(
     alloc: Global,
     changes: &[Change],
@@ -88,7 +87,7 @@ fn one_part(
     ensures { IfOk result (λ parts. parts ≡ record { shard = shard; changes = first.now ∷ second.now ∷ [] } ∷ []) }
 {
     let mut parts = PartList::new(alloc);
-    let changes = with_change(one_change(alloc, first)?, second)?;
+    let changes = ChangeList::of_two(alloc, first, second);
     parts.push(Part { shard, changes })?;
     Ok(parts)
 }
@@ -103,20 +102,14 @@ fn two_parts(
     ensures { IfOk result (λ parts. parts ≡ record { shard = at; changes = first.now ∷ [] } ∷ record { shard = other; changes = second.now ∷ [] } ∷ []) }
 {
     let mut parts = PartList::new(alloc);
-    let changes = one_change(alloc, first)?;
+    let changes = ChangeList::of_one(alloc, first);
     parts.push(Part { shard: at, changes })?;
-    let changes = one_change(alloc, second)?;
+    let changes = ChangeList::of_one(alloc, second);
     parts.push(Part {
         shard: other,
         changes,
     })?;
     Ok(parts)
-}
-
-fn one_change(alloc: Global, change: &Change) -> Result<ChangeList, NoMemory>
-    ensures { IfOk result (λ changes. changes ≡ change.now ∷ []) }
-{
-    with_change(ChangeList::new(alloc), change)
 }
 
 fn parts_by_shard(alloc: Global, changes: &[Change], shards: u32) -> Result<PartList, NoMemory>
@@ -151,8 +144,8 @@ fn take_in(
 ) -> Result<(), NoMemory>
     ensures { OnOk result (TakesIn by_shard.old by_shard.new shard change.now) }
 {
-    let before = changes_at(alloc, by_shard, shard);
-    let changes = with_change(before, change)?;
+    let mut changes = changes_at(alloc, by_shard, shard);
+    changes.push(*change)?;
     by_shard.insert(shard, changes)?;
     Ok(())
 }
@@ -165,13 +158,6 @@ fn changes_at(alloc: Global, by_shard: &mut Shards, shard: u32) -> ChangeList
         Some(changes) => changes,
         None => ChangeList::new(alloc),
     }
-}
-
-fn with_change(mut changes: ChangeList, change: &Change) -> Result<ChangeList, NoMemory>
-    ensures { IfOk result (λ more. more ≡ changes ++ change.now ∷ []) }
-{
-    changes.extend_from_slice(slice::from_ref(change))?;
-    Ok(changes)
 }
 
 fn vertex(change: &Change) -> VertexId
