@@ -1,9 +1,13 @@
 -- That a fold keeps what a label is at later timestamps.
-use Rattle.std.proofs.Common.{◌≡◌, ◌<◌, ◌≤◌, ℕ, true, false, nat_le, cond, List, [], ◌∷◌, Option, refl, sym, ap, ◌∙◌, arith}
+use Rattle.std.proofs.Common.{◌≡◌, ◌<◌, ◌≤◌, ◌+◌, ℕ, suc, true, false, nat_le, cond, List, [], ◌∷◌, length, drop, Option, refl, sym, ap, ◌∙◌, arith}
+use Rattle.std.specs.List.{prefix_len}
 use Rattle.std.proofs.lemmas.Bool.Decides.{nat_tests}
+use Rattle.std.proofs.lemmas.List.{drop_all, length-drop}
+use Rattle.std.proofs.lemmas.List.Folds.{length-prefix_len}
 use Rattle.version_cell.specs.declared.change.Change.{Change}
 use Rattle.version_cell.specs.meaning.Changes.{changes_after, label_after}
-use Rattle.version_cell.specs.storage.Due.{begins_by}
+use Rattle.version_cell.specs.storage.Due.{due_count}
+use Rattle.version_cell.specs.storage.Tracks.{is_changed}
 
 -- from what a label was at f, the changes after f make what all changes make of it
 pub label_after-folded : (at_floor : Option ℕ) (changes : List Change) (f t : ℕ) → f ≤ t → label_after (label_after at_floor changes f) (changes_after changes f) t ≡ label_after at_floor changes t
@@ -18,25 +22,35 @@ label_after-folded at_floor (change ∷ later) f t after =
       | false ↦ λ _. refl
     ] refl
 
--- the first change, where it comes by t, is taken up
-module _ (label : Option ℕ) (changes rest : List Change) (t : ℕ) (change : Change) (is : changes ≡ change ∷ rest) (due : begins_by t changes ≡ true) where
-  by_then : nat_le change.at t ≡ true
-  by_then = sym (ap (begins_by t) is) ∙ due
+-- as many changes are due as are passed from the first on
+passed-due : (t : ℕ) (changes : List Change) → due_count t changes ≡ prefix_len (λ c. nat_le c.at t) changes
+passed-due t changes = length-prefix_len (λ c. nat_le c.at t) changes
 
-  pub label_after-taken : label_after change.label rest t ≡ label_after label changes t
-  label_after-taken = ap (λ b. cond b (label_after change.label rest t) label) (sym by_then) ∙ ap (λ cs. label_after label cs t) (sym is)
+dropped-passed : (t : ℕ) (changes : List Change) → drop (prefix_len (λ c. nat_le c.at t) changes) changes ≡ changes_after changes t
+dropped-passed t [] = refl
+dropped-passed t (change ∷ later) =
+    let one : 1 + prefix_len (λ c. nat_le c.at t) later ≡ suc (prefix_len (λ c. nat_le c.at t) later) = omega arith in
+    elim (nat_le change.at t) as (λ b. drop (cond b (1 + prefix_len (λ c. nat_le c.at t) later) 0) (change ∷ later) ≡ cond b (changes_after later t) (change ∷ later)) [
+      | true ↦ ap (λ n. drop n (change ∷ later)) one ∙ dropped-passed t later
+      | false ↦ refl
+    ]
 
-  pub changes_after-taken : changes_after rest t ≡ changes_after changes t
-  changes_after-taken = ap (λ b. cond b (changes_after rest t) (change ∷ rest)) (sym by_then) ∙ ap (λ cs. changes_after cs t) (sym is)
+-- the changes that are not due are left
+pub dropped-due : (t : ℕ) (changes : List Change) → drop (due_count t changes) changes ≡ changes_after changes t
+dropped-due t changes = ap (λ n. drop n changes) (passed-due t changes) ∙ dropped-passed t changes
 
--- where none comes by t, all is as it stands
-pub label_after-left : (label : Option ℕ) (changes : List Change) (t : ℕ) → begins_by t changes ≡ false → label ≡ label_after label changes t
-label_after-left label [] t none = refl
-label_after-left label (change ∷ rest) t none = ap (λ b. cond b (label_after change.label rest t) label) (sym none)
+some-changed : (changes : List Change) → 0 < length changes → is_changed changes ≡ true
+some-changed [] some = absurd (omega arith)
+some-changed (change ∷ later) some = refl
 
-pub changes_after-left : (changes : List Change) (t : ℕ) → begins_by t changes ≡ false → changes ≡ changes_after changes t
-changes_after-left [] t none = refl
-changes_after-left (change ∷ rest) t none = ap (λ b. cond b (changes_after rest t) (change ∷ rest)) (sym none)
+-- there are some where fewer are due than there are, and else none
+pub is_changed-after : (t : ℕ) (changes : List Change) → due_count t changes < length changes → is_changed (changes_after changes t) ≡ true
+is_changed-after t changes fewer =
+    let left : 0 < length (drop (due_count t changes) changes) = omega (arith, fewer, length-drop (due_count t changes) changes) in
+    ap is_changed (sym (dropped-due t changes)) ∙ some-changed (drop (due_count t changes) changes) left
+
+pub none-after : (t : ℕ) (changes : List Change) → length changes ≤ due_count t changes → [] ≡ changes_after changes t
+none-after t changes all = sym (drop_all (due_count t changes) changes all) ∙ dropped-due t changes
 
 -- where the next change comes after t, the label stays
 pub label_after-next : (label : Option ℕ) (change : Change) (rest : List Change) (t : ℕ) → t < change.at → label ≡ label_after label (change ∷ rest) t

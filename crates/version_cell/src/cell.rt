@@ -167,9 +167,9 @@ impl Cell {
 
     /// Takes up the changes to a timestamp: the floor is the greater of both then, and what stands after the
     /// floor, and at each later timestamp, is what it was. Of what came before nothing is kept. It takes no
-    /// memory. Takes time linear in the number of the changes that it takes up and of the neighbours that
-    /// changed since the floor, each with a look-up, but not in the number of all neighbours. What was reserved,
-    /// and not used, may go.
+    /// memory. Takes time linear in the number of the changes of the label and of each edge of which it takes
+    /// some up, and of the neighbours that changed since the floor, each with a look-up, but not in the number of
+    /// all neighbours. What was reserved, and not used, may go.
     pub fn fold_to(&mut self, t: Stamp)
         ensures folded { IsFolded self.old t self.new }
         ensures pairs { (later : ℕ) → max self.old.floor t < later → pair_at self.new later ≡ pair_at self.old later }

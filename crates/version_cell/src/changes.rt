@@ -1,42 +1,47 @@
 ghost use Rattle.std.specs.Prelude.{◌≡◌, ◌-◌, ◌<◌, ◌≤◌, [], Some, OnOk};
 ghost use Rattle.version_cell.specs.meaning.Changes.{changes_after, label_after, with_change};
 ghost use Rattle.version_cell.specs.storage.Around.{edge_with};
-ghost use Rattle.version_cell.specs.storage.Due.{begins_by};
+ghost use Rattle.version_cell.specs.storage.Due.{due_count};
 ghost use Rattle.version_cell.specs.storage.Tracks.{is_changed};
 
 use crate::Change;
 use graph_types::{LabelId, Near, NoMemory, Stamp, VertexId};
+use smallvec::SmallVec;
 use std::alloc::Global;
-use std::collections::VecDeque;
+use std::default::MadeWith;
 use std::marker::Model;
 
-/// The changes of a label above a floor, in the order of their timestamps.
+/// How many changes lie in a list itself.
+const INLINE: usize = 1;
+
+/// The changes of a label above a floor, in the order of their timestamps. One lies in the value itself, more
+/// in an allocation.
 #[derive(Drop)]
 pub(crate) struct Changes {
-    items: VecDeque<Change>,
+    items: SmallVec<Change, INLINE>,
 }
 
 impl Model for Changes {
     ghost use Rattle.std.specs.Prelude.{◌-◌};
-    ghost use Rattle.std.specs.VecDeque.{deque_capacity, deque_len};
+    ghost use Rattle.smallvec.specs.SmallVec.{small_vec_len};
     ghost use Rattle.version_cell.specs.meaning.Changes.{Track};
 
     ghost Value = { Track };
 
-    ghost view = { λ c. record { changes = c.items.items; room = deque_capacity c.items - deque_len c.items } };
+    ghost view = { λ c. record { changes = c.items.items; room = c.items.capacity - small_vec_len c.items } };
 }
 
 impl Changes {
-    /// No changes, and no room yet.
+    /// No changes, and room for one.
     pub fn new(alloc: Global) -> Changes
         ensures { result.changes ≡ [] }
     {
         Changes {
-            items: VecDeque::new(alloc),
+            items: SmallVec::new(alloc),
         }
     }
 
-    /// Makes room for one more change, where there is none.
+    /// Makes room for one more change, where there is none. It takes memory only beside a change that is there.
     pub fn reserve(&mut self) -> Result<(), NoMemory>
         ensures same { self.new.changes ≡ self.old.changes }
         ensures kept { self.old.room ≤ self.new.room }
@@ -53,7 +58,7 @@ impl Changes {
     {
         // Written out, since passed on as it is it gets no generated proof.
         let Change { at, label } = change;
-        self.items.push_back_reserved(Change { at, label });
+        self.items.push_reserved(Change { at, label });
     }
 
     /// The label after a timestamp, from that at the floor. Takes time linear in the number of changes up to
@@ -62,7 +67,7 @@ impl Changes {
         ensures { result ≡ label_after at_floor self.now.changes t }
     {
         let mut label = at_floor;
-        for change in self.items.iter() {
+        for change in &self.items {
             if t < change.at {
                 return label;
             }
@@ -83,41 +88,47 @@ impl Changes {
         }
     }
 
-    /// Takes out the changes up to a timestamp, and answers the label then, from that at the floor. Takes
-    /// time linear in the number of these changes, and no memory. Where no change is left it gives its memory
-    /// back.
+    /// Takes out the changes up to a timestamp, and answers the label then, from that at the floor. Where it
+    /// takes some out it takes time linear in the number of all changes, else constant time; and no memory. Where
+    /// no change is left it gives its memory back.
     pub fn fold_to(&mut self, at_floor: Option<LabelId>, t: Stamp) -> Option<LabelId>
         ensures label { result ≡ label_after at_floor self.old.changes t }
         ensures rest { self.new.changes ≡ changes_after self.old.changes t }
     {
-        let mut label = at_floor;
-        while is_due(&self.items, t) {
-            if let Some(change) = self.items.pop_front() {
-                label = change.label;
-            }
-        }
-        // Most labels change seldom, so room that stays would be most of what there is.
-        if self.items.is_empty() {
-            self.items.shrink_to_fit();
-        }
+        let label = self.label_after(at_floor, t);
+        self.forget_to(t);
         label
     }
 
-    /// Takes out the changes up to a timestamp, and answers whether any are left. Takes time linear in the
-    /// number of those taken out, and no memory.
+    /// The same, where it answers whether any changes are left.
     pub fn forget_to(&mut self, t: Stamp) -> bool
         ensures rest { self.new.changes ≡ changes_after self.old.changes t }
         ensures left { result ≡ is_changed self.new.changes }
     {
-        self.fold_to(None, t);
-        self.has_some()
+        let due = self.due(t);
+        if due < self.items.len() {
+            self.items.drain(..due);
+            return true;
+        }
+        // Most labels change seldom, so room that stays would be most of what there is.
+        self.items.clear();
+        self.items.shrink_to_fit();
+        false
+    }
+
+    /// How many changes come up to a timestamp.
+    fn due(&self, t: Stamp) -> usize
+        ensures { result ≡ due_count t self.now.changes }
+    {
+        let changes = self.items.as_slice();
+        changes.iter().take_while(|change| change.at <= t).count()
     }
 
     /// Whether there is a change.
     pub fn has_some(&self) -> bool
         ensures { result ≡ is_changed self.now.changes }
     {
-        match self.items.front() {
+        match self.items.as_slice().first() {
             Some(_) => true,
             None => false,
         }
@@ -127,12 +138,22 @@ impl Changes {
     pub fn goes_past(&self, t: Stamp) -> bool
         ensures { result ≡ is_changed (changes_after self.now.changes t) }
     {
-        for change in self.items.iter() {
+        for change in &self.items {
             if t < change.at {
                 return true;
             }
         }
         false
+    }
+}
+
+/// What lies in a place that no change has yet.
+impl MadeWith<Global> for Change {
+    fn made_with(_alloc: Global) -> Change {
+        Change {
+            at: Stamp(0),
+            label: None,
+        }
     }
 }
 
@@ -142,14 +163,4 @@ pub(crate) fn previous(t: Stamp) -> Stamp
     ensures { result ≡ t - 1 }
 {
     Stamp(t.0 - 1)
-}
-
-/// Whether the first change comes up to a timestamp.
-fn is_due(changes: &VecDeque<Change>, t: Stamp) -> bool
-    ensures { result ≡ begins_by t changes.now.items }
-{
-    match changes.front() {
-        Some(change) => change.at <= t,
-        None => false,
-    }
 }

@@ -1,8 +1,8 @@
 -- Changes that come up to a timestamp.
-use Rattle.std.specs.Prelude.{ℕ, Bool, false, nat_le, List, [], ◌∷◌}
+use Rattle.std.specs.Prelude.{ℕ, nat_le, List, length}
+use Rattle.std.specs.List.{take_while}
 use Rattle.version_cell.specs.declared.change.Change.{Change}
 
--- the first change comes by t
-abbrev pub begins_by : ℕ → List Change → Bool
-begins_by t [] = false
-begins_by t (change ∷ later) = nat_le change.at t
+-- how many changes come by t, before the first that comes later
+abbrev pub due_count : ℕ → List Change → ℕ
+due_count t changes = length (take_while (λ change. nat_le change.at t) changes)
