@@ -148,8 +148,9 @@ impl Shard {
     }
 
     /// Takes up the changes to a timestamp: the floor is the greater of both then, and what it tells from there on
-    /// stays. Takes time by the changes that it takes up, and for each vertex where it takes some up by the number
-    /// of its changed neighbours, but not by the number of vertices or of all neighbours. It takes no memory.
+    /// stays. Takes time by the number of changes of each label and edge of which it takes some up, and for each
+    /// vertex of these by the number of its changed neighbours, but not by the number of vertices or of all
+    /// neighbours. It takes no memory.
     pub fn prune(&mut self, f: Stamp)
         ensures pruned { self.new ≡ pruned self.old f }
         ensures one_version { IsInOrder self.new }
