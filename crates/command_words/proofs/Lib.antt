@@ -1,4 +1,5 @@
 pub mod Order
+pub mod Schedules
+pub mod Spelt
 pub mod Splitting
 pub mod WithinRange
-pub mod Spelt

@@ -1,14 +1,22 @@
 -- Settings in order, from the first one on.
-use Rattle.std.proofs.Common.{◌≡◌, ℕ, Bool, true, false, ◌&&◌, List, ◌∷◌, Option, None, Some, refl, sym, ap, ◌∙◌, if◌then◌else◌}
+use Rattle.std.proofs.Common.{◌≡◌, ℕ, Bool, true, false, ◌&&◌, List, ◌∷◌, Option, None, Some, is_none, refl, sym, ap, ◌∙◌, if◌then◌else◌}
 use Rattle.std.specs.Option.{option_map, option_map_or, option_and_then}
+use Rattle.std.proofs.lemmas.Bool.{and_parts}
 use Rattle.command_words.specs.declared.command.Options.{Options}
 use Rattle.command_words.specs.declared.command.Verb.{Verb}
-use Rattle.command_words.specs.meaning.Words.{Setting, setting_fits, is_in_order, options_of, options_of_words, settings_of}
+use Rattle.command_words.specs.meaning.Words.{Setting, has_option, is_in_order, options_of, options_of_words, setting_fits, settings_of, takes_value, value_named}
 use Rattle.command_words.proofs.Splitting.{after}
 
 -- the words are settings in order
 abbrev pub are_in_order : Verb → List (List ℕ) → Bool
 are_in_order verb words = option_map_or (is_in_order verb) (settings_of words) false
+
+-- a setting that fits is of an option, which takes its value
+pub fits_option : (verb : Verb) (s : Setting) (settings : List Setting) → setting_fits verb s settings ≡ true →
+    (has_option verb s.name ≡ true) × (takes_value s.name s.value ≡ true)
+fits_option verb s settings fits =
+    let first = (and_parts (has_option verb s.name && takes_value s.name s.value) (is_none (value_named s.name settings)) fits).0 in
+    and_parts (has_option verb s.name) (takes_value s.name s.value) first
 
 -- where all settings that some words may be pass or fail alike
 alike : (f g : List Setting → Bool) (o : Option (List Setting)) → ((settings : List Setting) → o ≡ Some settings → f settings ≡ g settings) → option_map_or f o false ≡ option_map_or g o false

@@ -1,5 +1,5 @@
--- The numbers of settings in order are in the ranges of their options.
-use Rattle.std.proofs.Common.{◌≡◌, ℕ, ◌<◌, ◌≤◌, ◌^◌, Bool, true, false, ◌&&◌, codes, List, [], ◌∷◌, nat_le, Option, None, Some, IfSome, is_none, unwrap_or, if◌then◌else◌, refl, sym, ap, ◌∙◌, arith}
+-- The values of settings in order are in the ranges of their options.
+use Rattle.std.proofs.Common.{◌≡◌, ℕ, ◌<◌, ◌≤◌, ◌^◌, Bool, true, false, ◌&&◌, codes, List, [], ◌∷◌, nat_le, Option, None, Some, IfSome, unwrap_or, if◌then◌else◌, refl, sym, ap, ◌∙◌, arith}
 use Rattle.std.specs.Option.{option_map_or, option_and_then}
 use Rattle.std.specs.Str.{bytes_eq}
 use Rattle.std.proofs.lemmas.Bool.{and_parts, leb-true}
@@ -7,8 +7,9 @@ use Rattle.std.proofs.lemmas.Slice.Eq.{bytes_eq-Decides}
 use Rattle.line_fields.specs.meaning.Fields.{number_of}
 use Rattle.command_words.specs.declared.command.Verb.{Verb}
 use Rattle.command_words.specs.meaning.Ranges.{AreWithin, IsWithin}
-use Rattle.command_words.specs.meaning.Words.{Setting, has_option, is_in_order, is_number_within, number_named, number_or, options_of, range_of, settings_of, takes_value, value_named, setting_fits}
-use Rattle.command_words.proofs.Order.{are_in_order}
+use Rattle.command_words.specs.meaning.Words.{Setting, is_in_order, is_number_within, is_schedule, number_named, number_or, options_of, range_of, settings_of, takes_value, value_named, setting_fits}
+use Rattle.command_words.proofs.Order.{are_in_order, fits_option}
+use Rattle.command_words.proofs.Schedules.{digits_or_none, schedule-within}
 
 number_within : (least most : ℕ) (o : Option ℕ) →
     option_map_or (λ n. nat_le least n && nat_le n most) o false ≡ true → IfSome o (IsWithin least most)
@@ -24,14 +25,18 @@ value_within least most range value is takes =
     number_within least most (number_of 10 value)
     (sym (ap (λ range. option_map_or (λ range. is_number_within range.0 range.1 value) range false) is) ∙ takes)
 
-module _ (verb : Verb) (name : List ℕ) (least most : ℕ) (range : range_of name ≡ Some (least, most)) where
+module _ (verb : Verb) (name : List ℕ) (least most : ℕ) (other : bytes_eq name (codes "schedule") ≡ false)
+    (range : range_of name ≡ Some (least, most)) where
+  takes_number : (value : List ℕ) → takes_value name value ≡ true → IfSome (number_of 10 value) (IsWithin least most)
+  takes_number value takes =
+      value_within least most (range_of name) value range
+      (sym (ap (λ b. if b then is_schedule value else option_map_or (λ range. is_number_within range.0 range.1 value) (range_of name) false) other) ∙ takes)
+
   first_within : (s : Setting) (settings : List Setting) → setting_fits verb s settings ≡ true →
       bytes_eq s.name name ≡ true → IfSome (number_of 10 s.value) (IsWithin least most)
   first_within s settings fits same =
-      let first = (and_parts (has_option verb s.name && takes_value s.name s.value) (is_none (value_named s.name settings)) fits).0 in
-      let takes = (and_parts (has_option verb s.name) (takes_value s.name s.value) first).1 in
-      value_within least most (range_of s.name) s.value
-      (ap range_of ((bytes_eq-Decides s.name name).0 same) ∙ range) takes
+      takes_number s.value
+      (sym (ap (λ name. takes_value name s.value) ((bytes_eq-Decides s.name name).0 same)) ∙ (fits_option verb s settings fits).1)
 
   by_name : (s : Setting) (settings : List Setting) (b : Bool) → bytes_eq s.name name ≡ b →
       setting_fits verb s settings ≡ true → IfSome (number_named name settings) (IsWithin least most) →
@@ -57,31 +62,32 @@ short_within least most None few within = tt
 short_within least most (Some n) few within = omega (arith, within.1, few)
 
 -- it fits 32 bits
-pub named-short : (verb : Verb) (name : List ℕ) (least most : ℕ) → range_of name ≡ Some (least, most) →
-    most ≤ 4000000000 → (settings : List Setting) → is_in_order verb settings ≡ true →
-    IfSome (number_named name settings) (λ n. n < 2 ^ 32)
-named-short verb name least most range few settings order =
-    short_within least most (number_named name settings) few (named-within verb name least most range settings order)
+pub named-short : (verb : Verb) (name : List ℕ) (least most : ℕ) → bytes_eq name (codes "schedule") ≡ false →
+    range_of name ≡ Some (least, most) → most ≤ 4000000000 → (settings : List Setting) →
+    is_in_order verb settings ≡ true → IfSome (number_named name settings) (λ n. n < 2 ^ 32)
+named-short verb name least most other range few settings order =
+    short_within least most (number_named name settings) few (named-within verb name least most other range settings order)
 
 pub options-within : (verb : Verb) (settings : List Setting) → is_in_order verb settings ≡ true →
     AreWithin (options_of settings)
 options-within verb settings order = record {
-  workers = or (codes "workers") 1 16 2 refl (omega arith, omega arith);
-  shards = or (codes "shards") 1 64 8 refl (omega arith, omega arith);
-  window = or (codes "window") 1 4096 256 refl (omega arith, omega arith);
-  max_records = or (codes "max-records") 1 10000000 100000 refl (omega arith, omega arith);
-  max_lines = or (codes "max-lines") 1 4000000000 4000000000 refl (omega arith, omega arith);
-  records = or (codes "records") 1 2 2 refl (omega arith, omega arith);
-  at = named-within verb (codes "at") 0 4000000000 refl settings order;
-  seed = or (codes "seed") 0 2147483647 1 refl (omega arith, omega arith);
-  vertices = or (codes "vertices") 2 10000 200 refl (omega arith, omega arith);
-  updates = or (codes "updates") 0 1000000 2000 refl (omega arith, omega arith);
+  workers = or (codes "workers") 1 16 2 refl refl (omega arith, omega arith);
+  shards = or (codes "shards") 1 64 8 refl refl (omega arith, omega arith);
+  window = or (codes "window") 1 4096 256 refl refl (omega arith, omega arith);
+  max_records = or (codes "max-records") 1 10000000 100000 refl refl (omega arith, omega arith);
+  max_lines = or (codes "max-lines") 1 4000000000 4000000000 refl refl (omega arith, omega arith);
+  records = or (codes "records") 1 2 2 refl refl (omega arith, omega arith);
+  at = named-within verb (codes "at") 0 4000000000 refl refl settings order;
+  seed = or (codes "seed") 0 2147483647 1 refl refl (omega arith, omega arith);
+  vertices = or (codes "vertices") 2 10000 200 refl refl (omega arith, omega arith);
+  updates = or (codes "updates") 0 1000000 2000 refl refl (omega arith, omega arith);
+  schedule = digits_or_none (value_named (codes "schedule") settings) (schedule-within verb settings order);
 }
   where
-    or : (name : List ℕ) (least most usual : ℕ) → range_of name ≡ Some (least, most) → IsWithin least most usual →
-        IsWithin least most (number_or usual name settings)
-    or name least most usual range is =
-        within_or least most usual (number_named name settings) is (named-within verb name least most range settings order)
+    or : (name : List ℕ) (least most usual : ℕ) → bytes_eq name (codes "schedule") ≡ false →
+        range_of name ≡ Some (least, most) → IsWithin least most usual → IsWithin least most (number_or usual name settings)
+    or name least most usual other range is =
+        within_or least most usual (number_named name settings) is (named-within verb name least most other range settings order)
 
 -- words in order are settings in order
 pub known_order : (verb : Verb) (words : List (List ℕ)) (settings : List Setting) → are_in_order verb words ≡ true →

@@ -1,3 +1,6 @@
+ghost use Rattle.std.specs.Prelude.{◌≡◌};
+
+use graph_types::{List, NoMemory};
 use thiserror::Error;
 
 /// What the program is to do.
@@ -9,12 +12,15 @@ pub enum Verb {
     Fold,
     /// Reads records of either format and writes them in the later one.
     Migrate,
+    /// Reads a job and writes records as `mine` does, on one thread, with the events of its machine in the order that
+    /// digits choose.
+    Rehearse,
     /// Makes a job from numbers, mines it, and writes how many records it has.
     Trial,
 }
 
 /// The options of all commands. One that isn't named, or that the command hasn't, has its default.
-#[derive(Clone, Copy, Debug, PartialEq, Eq)]
+#[derive(Debug, Drop)]
 pub struct Options {
     /// `--workers`, 1 to 16: the threads that mine. By default 2.
     pub workers: u32,
@@ -36,10 +42,12 @@ pub struct Options {
     pub vertices: u32,
     /// `--updates`, 0 to 1,000,000: the updates of a trial after its vertices. By default 2,000.
     pub updates: u32,
+    /// `--schedule`, 0 to 4,096 digits: which events a rehearsal chooses. By default none.
+    pub schedule: List<u8>,
 }
 
 /// A command with its options.
-#[derive(Clone, Copy, Debug, PartialEq, Eq)]
+#[derive(Debug, Drop)]
 pub struct Command {
     pub verb: Verb,
     pub options: Options,
@@ -55,4 +63,14 @@ pub enum WordsFault {
     /// Memory ran out.
     #[error("out of memory")]
     NoMemory,
+}
+
+impl From<NoMemory> for WordsFault {
+    ghost use Rattle.command_words.specs.declared.command.WordsFault.TheVariants as fault;
+
+    ghost from_gives = { λ _ e. e ≡ fault.NoMemory };
+
+    fn from(_error: NoMemory) -> WordsFault {
+        WordsFault::NoMemory
+    }
 }

@@ -1,4 +1,5 @@
-ghost use Rattle.std.specs.Prelude.{◌≡◌, IfOk, IfSome, MatchResult, None, Some, map, string_bytes};
+ghost use Rattle.std.specs.Prelude.{◌≡◌, IfOk, MatchResult, Some, map, string_bytes};
+ghost use Rattle.command_words.specs.calls.Reading.{LacksCommand};
 ghost use Rattle.command_words.specs.meaning.Ranges.{AreWithin};
 ghost use Rattle.command_words.specs.meaning.Words.{command_of, verb_of};
 
@@ -7,26 +8,19 @@ use crate::options::read_options;
 use std::alloc::Global;
 
 /// The command that the words after the program's name give. It goes over them a few times for each
-/// option. The allocator is for options that keep bytes; there are none yet, and no memory is taken.
-pub fn read_words(_alloc: Global, words: &[String]) -> Result<Command, WordsFault>
+/// option. Only the digits of a schedule take memory.
+pub fn read_words(alloc: Global, words: &[String]) -> Result<Command, WordsFault>
     ensures read { MatchResult result
         (λ command. command_of (map string_bytes words.now) ≡ Some command)
-        (λ fault. (fault ≡ WordsFault.Usage) × (command_of (map string_bytes words.now) ≡ None)) }
+        (LacksCommand (command_of (map string_bytes words.now))) }
     ensures within { IfOk result (λ command. AreWithin command.options) }
 {
-    read_command(words).ok_or(WordsFault::Usage)
-}
-
-fn read_command(words: &[String]) -> Option<Command>
-    ensures read { result ≡ command_of (map string_bytes words.now) }
-    ensures within { IfSome result (λ command. AreWithin command.options) }
-{
     match words {
-        [] => None,
+        [] => Err(WordsFault::Usage),
         [word, behind @ ..] => {
-            let verb = read_verb(word.as_bytes())?;
-            let options = read_options(verb, behind)?;
-            Some(Command { verb, options })
+            let verb = read_verb(word.as_bytes()).ok_or(WordsFault::Usage)?;
+            let options = read_options(alloc, verb, behind)?;
+            Ok(Command { verb, options })
         }
     }
 }
@@ -40,6 +34,8 @@ fn read_verb(word: &[u8]) -> Option<Verb>
         Some(Verb::Fold)
     } else if word == b"migrate".as_slice() {
         Some(Verb::Migrate)
+    } else if word == b"rehearse".as_slice() {
+        Some(Verb::Rehearse)
     } else if word == b"trial".as_slice() {
         Some(Verb::Trial)
     } else {

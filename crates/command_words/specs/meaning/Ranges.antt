@@ -1,9 +1,14 @@
 -- The ranges of options, as callers need them.
-use Rattle.std.specs.Prelude.{◌≤◌, ℕ, IfSome}
+use Rattle.std.specs.Prelude.{◌≤◌, ℕ, All, IfSome, List, length}
 use Rattle.command_words.specs.declared.command.Options.{Options}
 
 abbrev pub IsWithin : ℕ → ℕ → ℕ → Type 0
 IsWithin least most n = (least ≤ n) × (n ≤ most)
+
+-- so many digits at most, each one of `0` to `9`
+pub record AreDigits (most : ℕ) (digits : List ℕ) : Type 0 where
+  pub few : length digits ≤ most
+  pub each : All (λ byte. IsWithin 48 57 byte) digits
 
 -- each option is in its range, whether it is named or has its default
 pub record AreWithin (options : Options) : Type 0 where
@@ -17,3 +22,4 @@ pub record AreWithin (options : Options) : Type 0 where
   pub seed : IsWithin 0 2147483647 options.seed
   pub vertices : IsWithin 2 10000 options.vertices
   pub updates : IsWithin 0 1000000 options.updates
+  pub schedule : AreDigits 4096 options.schedule

@@ -1,11 +1,11 @@
 -- The words of the command line: a command, and the values that it gives to options.
-use Rattle.std.specs.Prelude.{ℕ, ◌+◌, Bool, true, false, ◌&&◌, List, [], ◌∷◌, ◌++◌, take, drop, eqb, nat_le, codes, Option, None, Some, is_none, unwrap_or, if◌then◌else◌}
-use Rattle.std.specs.List.{position, list_any}
+use Rattle.std.specs.Prelude.{ℕ, ◌+◌, Bool, true, false, ◌&&◌, List, [], ◌∷◌, ◌++◌, take, drop, eqb, nat_le, codes, Option, None, Some, is_none, length, unwrap_or, if◌then◌else◌}
+use Rattle.std.specs.List.{position, list_all, list_any}
 use Rattle.std.specs.Option.{option_map, option_map_or, option_and_then}
 use Rattle.std.specs.Str.{bytes_eq}
-use Rattle.line_fields.specs.meaning.Fields.{number_of, is_dash}
+use Rattle.line_fields.specs.meaning.Fields.{is_dash, is_digit, number_of}
 use Rattle.command_words.specs.declared.command.Verb.{Verb}
-use Rattle.command_words.specs.declared.command.Verb.TheVariants.{Mine, Fold, Migrate, Trial}
+use Rattle.command_words.specs.declared.command.Verb.TheVariants.{Mine, Fold, Migrate, Rehearse, Trial}
 use Rattle.command_words.specs.declared.command.Options.{Options}
 use Rattle.command_words.specs.declared.command.Command.{Command}
 
@@ -17,12 +17,17 @@ verb_of word =
     if bytes_eq word (codes "mine") then Some Mine
     else if bytes_eq word (codes "fold") then Some Fold
     else if bytes_eq word (codes "migrate") then Some Migrate
+    else if bytes_eq word (codes "rehearse") then Some Rehearse
     else if bytes_eq word (codes "trial") then Some Trial
     else None
 
--- the options of commands that mine a job in windows
+-- the options of commands that mine a job in windows, on one thread
+abbrev pub window_options : List (List ℕ)
+window_options = codes "shards" ∷ codes "window" ∷ codes "max-records" ∷ codes "max-lines" ∷ []
+
+-- and on several
 abbrev pub mining_options : List (List ℕ)
-mining_options = codes "workers" ∷ codes "shards" ∷ codes "window" ∷ codes "max-records" ∷ codes "max-lines" ∷ []
+mining_options = codes "workers" ∷ window_options
 
 -- the options of the command that makes a job, for it
 abbrev pub making_options : List (List ℕ)
@@ -33,12 +38,13 @@ abbrev pub option_names : Verb → List (List ℕ)
 option_names Mine = codes "records" ∷ mining_options
 option_names Fold = codes "at" ∷ []
 option_names Migrate = []
+option_names Rehearse = codes "schedule" ∷ codes "records" ∷ window_options
 option_names Trial = making_options ++ mining_options
 
 abbrev pub has_option : Verb → List ℕ → Bool
 has_option verb name = list_any (bytes_eq name) (option_names verb)
 
--- an option: its name, and the least and the most that it takes
+-- an option that takes a number: its name, and the least and the most that it takes
 pub record NumberOption : Type 0 where
   pub name : List ℕ
   pub least : ℕ
@@ -47,7 +53,7 @@ pub record NumberOption : Type 0 where
 abbrev pub from_to : List ℕ → ℕ → ℕ → NumberOption
 from_to name least most = record { name = name; least = least; most = most }
 
--- all options
+-- all of these
 abbrev pub number_options : List NumberOption
 number_options =
     from_to (codes "workers") 1 16
@@ -75,6 +81,7 @@ default_options = record {
   seed = 1;
   vertices = 200;
   updates = 2000;
+  schedule = [];
 }
 
 -- the least and the most that the option of this name takes
@@ -90,9 +97,19 @@ range_of name = range_in number_options name
 abbrev pub is_number_within : ℕ → ℕ → List ℕ → Bool
 is_number_within least most value = option_map_or (λ n. nat_le least n && nat_le n most) (number_of 10 value) false
 
+-- the most digits of a schedule
+abbrev pub most_digits : ℕ
+most_digits = 4096
+
+-- so many digits at most, or none
+abbrev pub is_schedule : List ℕ → Bool
+is_schedule value = nat_le (length value) most_digits && list_all is_digit value
+
 -- the option of this name takes this value
 abbrev pub takes_value : List ℕ → List ℕ → Bool
-takes_value name value = option_map_or (λ range. is_number_within range.0 range.1 value) (range_of name) false
+takes_value name value =
+    if bytes_eq name (codes "schedule") then is_schedule value
+    else option_map_or (λ range. is_number_within range.0 range.1 value) (range_of name) false
 
 -- ---- how options stand on the command line
 
@@ -155,6 +172,10 @@ number_named name settings = option_and_then (number_of 10) (value_named name se
 abbrev pub number_or : ℕ → List ℕ → List Setting → ℕ
 number_or usual name settings = unwrap_or (number_named name settings) usual
 
+-- the digits that are given to a name
+abbrev pub digits_or : List ℕ → List ℕ → List Setting → List ℕ
+digits_or usual name settings = unwrap_or (value_named name settings) usual
+
 -- each option as it is named, or else its default
 abbrev pub options_of : List Setting → Options
 options_of settings = record {
@@ -168,6 +189,7 @@ options_of settings = record {
   seed = number_or default_options.seed (codes "seed") settings;
   vertices = number_or default_options.vertices (codes "vertices") settings;
   updates = number_or default_options.updates (codes "updates") settings;
+  schedule = digits_or default_options.schedule (codes "schedule") settings;
 }
 
 -- the options that the words after a command give
