@@ -1,5 +1,5 @@
 use crate::case::CaseFault;
-use crate::text::read_text;
+use crate::text::{Shown, read_text};
 use command_words::{Command, Options, Verb, WordsFault, read_words};
 use std::alloc::Global;
 use std::fmt::Write;
@@ -28,8 +28,8 @@ fn show_command(command: &Command, answer: &mut String) -> Result<(), CaseFault>
     let options = &command.options;
     match command.verb {
         Verb::Mine => {
-            answer.push_str("mine")?;
-            show_mining(options, answer)?;
+            write!(answer, "mine workers {}", options.workers)?;
+            show_windows(options, answer)?;
             write!(answer, " records {}", options.records)?;
         }
         Verb::Fold => {
@@ -39,22 +39,38 @@ fn show_command(command: &Command, answer: &mut String) -> Result<(), CaseFault>
             }
         }
         Verb::Migrate => answer.push_str("migrate")?,
+        Verb::Rehearse => {
+            answer.push_str("rehearse")?;
+            show_windows(options, answer)?;
+            write!(answer, " records {}", options.records)?;
+            show_schedule(options.schedule.as_slice(), answer)?;
+        }
         Verb::Trial => {
             write!(answer, "trial seed {}", options.seed)?;
             write!(answer, " vertices {}", options.vertices)?;
             write!(answer, " updates {}", options.updates)?;
-            show_mining(options, answer)?;
+            write!(answer, " workers {}", options.workers)?;
+            show_windows(options, answer)?;
         }
     }
     Ok(())
 }
 
-fn show_mining(options: &Options, answer: &mut String) -> Result<(), CaseFault> {
-    write!(answer, " workers {}", options.workers)?;
+fn show_windows(options: &Options, answer: &mut String) -> Result<(), CaseFault> {
     write!(answer, " shards {}", options.shards)?;
     write!(answer, " window {}", options.window)?;
     write!(answer, " max-records {}", options.max_records)?;
     write!(answer, " max-lines {}", options.max_lines)?;
+    Ok(())
+}
+
+/// The digits of a schedule; `-` stands for none.
+fn show_schedule(digits: &[u8], answer: &mut String) -> Result<(), CaseFault> {
+    if digits.is_empty() {
+        answer.push_str(" schedule -")?;
+    } else {
+        write!(answer, " schedule {}", Shown(digits))?;
+    }
     Ok(())
 }
 
