@@ -58,6 +58,29 @@ impl Window {
         }
     }
 
+    /// The window without a group whose first one will have the timestamp after the last one here. It keeps the memory of the
+    /// list of groups.
+    pub fn into_next(self) -> Window
+        requires first_in_range { self.first + length self.later ≤ 10 ^ 19 }
+        ensures { result ≡ record { first = self.first + length self.later; shards = self.shards; base = None; later = []; current = None } }
+    {
+        let first = self.stamp_after(self.len());
+        let Window {
+            shards,
+            mut groups,
+            alloc,
+            ..
+        } = self;
+        groups.clear();
+        Window {
+            first,
+            shards,
+            groups,
+            current: None,
+            alloc,
+        }
+    }
+
     /// The timestamp before that of the first group.
     pub fn first(&self) -> Stamp
         ensures { result ≡ self.now.first }
