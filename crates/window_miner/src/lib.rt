@@ -3,5 +3,7 @@
 #![tactic(auto)]
 
 mod mining;
+mod pass;
 
-pub use mining::{Mined, mine_window};
+pub use mining::{Mined, mine_groups, mine_window};
+pub use pass::{AtGate, Pass};

@@ -6,6 +6,7 @@ ghost use Rattle.group_window.specs.meaning.Windows.{graph_of};
 ghost use Rattle.shard_state.specs.calls.Sharing.{TellGroups};
 ghost use Rattle.window_miner.specs.calls.Mining.{CanMine, FollowsShards, IsMined};
 
+use crate::pass::{AtGate, Pass};
 use delta_task::{Delta, DeltaStop, delta_of};
 use filter_polarity::Program;
 use graph_types::{Gate, NoMemory, Point};
@@ -28,13 +29,10 @@ pub struct Mined {
 ///
 /// Once the shards have taken in a group the gate is passed at its `Stamped` and `Begun`, and once it is mined at its
 /// `Finished`. All is done by the thread that calls; `workers` changes nothing.
-///
-/// A group costs what it changed in the shards, and the search from it. The prune at the end costs what changed since
-/// the last one.
 pub fn mine_window<R: Wait, G: Gate>(
     rt: &R,
     alloc: Global,
-    mut shards: Vec<Shard>,
+    shards: Vec<Shard>,
     window: &Window,
     program: &Program,
     _workers: u32,
@@ -44,15 +42,33 @@ pub fn mine_window<R: Wait, G: Gate>(
     requires can { CanMine window.now shards.items }
     ensures { (g : Graph) → FollowsShards window.now shards.items g → IfOk result (IsMined (pattern_of program.now) most window.now g) }
 {
+    mine_groups(&AtGate { rt, gate }, alloc, shards, window, program, most)
+}
+
+/// The same by the thread that calls, which passes each point.
+///
+/// A group costs what it changed in the shards, and the search from it. The prune at the end costs what changed since
+/// the last one.
+pub fn mine_groups<P: Pass>(
+    pass: &P,
+    alloc: Global,
+    mut shards: Vec<Shard>,
+    window: &Window,
+    program: &Program,
+    most: u32,
+) -> Result<Mined, NoMemory>
+    requires can { CanMine window.now shards.items }
+    ensures { (g : Graph) → FollowsShards window.now shards.items g → IfOk result (IsMined (pattern_of program.now) most window.now g) }
+{
     window.sound();
-    let mut deltas = Vec::new(alloc);
+    let mut deltas = Vec::with_capacity(alloc, window.len())?;
     for group in 0..window.len() {
         take_in(&mut shards, window, group)?;
         let at = window.stamp_after(group + 1);
-        gate.pass(rt, Point::Stamped(at));
-        gate.pass(rt, Point::Begun(at));
+        pass.pass(Point::Stamped(at));
+        pass.pass(Point::Begun(at));
         let delta = mine_group(alloc, &shards, window, group, program, most)?;
-        gate.pass(rt, Point::Finished(at));
+        pass.pass(Point::Finished(at));
         deltas.push(delta)?;
     }
     prune_all(&mut shards, window.stamp_after(window.len()));

@@ -3,10 +3,10 @@ use Rattle.std.proofs.lemmas.List.{with_items_is}
 use Rattle.cond_eval.specs.meaning.Patterns.{pattern_of}
 use Rattle.shard_state.specs.calls.Sharing.{TellGroups}
 use Rattle.window_miner.proofs.DeltasInOrder.{mined-all, mined-next, mined-none, told-lent, told-lower}
-use Rattle.window_miner.proofs.mining.mine_window.Goals as goal
+use Rattle.window_miner.proofs.mining.mine_groups.Goals as goal
 
 pub loop-group-init : goal.loop-group-init
-loop-group-init g c = λ graph follows. mined-none (pattern_of c.args.program.now) c.args.most c.args.window.now graph c.sound.ensures c.args.shards.items c.new-deltas.result.items follows c.new-deltas.ensures.items
+loop-group-init g c = λ graph follows. mined-none (pattern_of c.args.program.now) c.args.most c.args.window.now graph c.sound.ensures c.args.shards.items c.in_ok-deltas.deltas.items follows c.in_ok-deltas.ensures.items
 
 pub take_in-requires-clause-told : goal.take_in-requires-clause-told
 take_in-requires-clause-told g c =
@@ -36,4 +36,4 @@ returns g c = λ graph follows.
     let all : c.loop-group.group ≡ length c.args.window.now.later = omega arith in
     mined-all (pattern_of c.args.program.now) c.args.most c.args.window.now graph c.sound.ensures c.loop-group.group c.loop-group.shards.items c.deref_mut-2.result.now c.loop-group.deltas.items
     follows.base (c.loop-group.invariant graph follows) c.deref_mut-2.ensures.value
-    c.stamp_after.result c.prune_all.new.shards _ _ all (c.stamp_after.ensures ∙ ap (λ n. c.args.window.now.first + n) c.len.ensures) c.prune_all.ensures (with_items_is c.loop-group.shards c.prune_all.new.shards same) refl refl
+    c.stamp_after.result c.prune_all.new.shards _ _ all (c.stamp_after.ensures ∙ ap (λ n. c.args.window.now.first + n) c.len-2.ensures) c.prune_all.ensures (with_items_is c.loop-group.shards c.prune_all.new.shards same) refl refl
