@@ -11,15 +11,16 @@ ghost use Rattle.rehearsal.specs.declared.task.Task.TheVariants as task;
 ghost use Rattle.rehearsal.specs.meaning.MachineState.{Stage, first_state, state_of};
 ghost use Rattle.rehearsal.specs.meaning.Shown.{moves_of, shown};
 ghost use Rattle.rehearsal.specs.meaning.Soundness.{HaveFound, IsSoundMachine, IsSoundState, graphs_from};
-ghost use Rattle.rehearsal.specs.meaning.Table.{after, are_for, group_of, group_parts, has_group, holds, is_home, may, next_parts, task_is};
+ghost use Rattle.rehearsal.specs.meaning.Table.{after, are_for, enabled, group_of, group_parts, has_group, holds, is_home, may, next_parts, task_is};
 ghost use Rattle.shard_events.specs.meaning.Events.{LeadTo};
 ghost use Rattle.window_miner.specs.calls.Mining.{CanMine, FollowsShards};
 
 use crate::event::Event;
+use crate::listing::all_events;
 use crate::task::Task;
 use delta_task::{Delta, DeltaStop, delta_of};
 use filter_polarity::Program;
-use graph_types::{NoMemory, Stamp};
+use graph_types::{List, NoMemory, Stamp};
 use group_window::Window;
 use shard_events::laws::each_event_keeps_the_rule;
 use shard_state::{OwnedView, Shard};
@@ -47,7 +48,7 @@ pub struct Machine {
 /// Why an event did not happen. The machine is as it was.
 #[derive(Clone, Copy, Debug, PartialEq, Eq)]
 pub enum MachineStop {
-    /// It may not happen now.
+    /// It may not happen now: exactly where it isn't among the enabled ones.
     Disabled,
     /// Out of memory.
     NoMemory,
@@ -104,6 +105,23 @@ impl Machine {
             Event::PrunePut(s) => holds(self.watch, *s),
             Event::PruneTake(s) => self.may_prune(window, *s),
         }
+    }
+
+    /// The events that may happen, in the order in which they are listed. Takes time linear in the number of shards and of
+    /// groups.
+    pub fn enabled(&self, alloc: Global, window: &Window) -> Result<List<Event>, NoMemory>
+        requires { (g : Graph) × IsSoundState window.now g (state_of self.now) }
+        ensures { IfOk result (λ events. events ≡ enabled window.now (state_of self.now)) }
+    {
+        window.sound();
+        let all = all_events(alloc, window, self.shards[0].shards())?;
+        let mut events = List::new(alloc);
+        for event in all.as_slice() {
+            if self.may(window, event) {
+                events.push(*event)?;
+            }
+        }
+        Ok(events)
     }
 
     /// Lets an event happen.
