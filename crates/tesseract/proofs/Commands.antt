@@ -3,11 +3,11 @@ use Rattle.std.proofs.Common.{◌≡◌, Bool, true, false, ◌||◌, ℕ, List,
 use Rattle.std.specs.Option.{option_and_then, option_map}
 use Rattle.std.specs.Str.{bytes_eq}
 use Rattle.command_words.specs.declared.command.Verb.{Verb}
-use Rattle.command_words.specs.declared.command.Verb.TheVariants.{Mine, Fold, Migrate, Trial}
+use Rattle.command_words.specs.declared.command.Verb.TheVariants.{Mine, Fold, Migrate, Rehearse, Trial}
 use Rattle.command_words.specs.declared.command.Options.{Options}
 use Rattle.command_words.specs.declared.command.Command.{Command}
 use Rattle.command_words.specs.meaning.Words.{command_of, options_of_words, verb_of}
-use Rattle.tesseract.specs.meaning.Commands.{fold_command, is_still, migrate_command, mine_command, trial_command}
+use Rattle.tesseract.specs.meaning.Commands.{is_still, mine_command, trial_command}
 
 -- a command with options that were given
 of_verb : (verb : Verb) (options : Option Options) (c : Command) →
@@ -30,38 +30,48 @@ first_word : (word : List ℕ) (words : List (List ℕ)) (c : Command) → comma
 first_word word words c given = named (verb_of word) (λ verb. options_of_words verb words) c given
 
 -- what the first word names, by which of the names it is
-abbrev verb_by : Bool → Bool → Bool → Bool → Option Verb
-verb_by m f g t = if m then Some Mine else if f then Some Fold else if g then Some Migrate else if t then Some Trial else None
+abbrev verb_by : Bool → Bool → Bool → Bool → Bool → Option Verb
+verb_by m f g r t =
+    if m then Some Mine else if f then Some Fold else if g then Some Migrate else if r then Some Rehearse else if t then Some Trial else None
 
-is_fold : (m f g t : Bool) → verb_by m f g t ≡ Some Fold → f || g ≡ true
-is_fold true f g t named = absurd (let e : Some Mine ≡ Some Fold = named in cc)
-is_fold false true g t named = refl
-is_fold false false true t named = refl
-is_fold false false false true named = absurd (let e : Some Trial ≡ Some Fold = named in cc)
-is_fold false false false false named = absurd (let e : None ≡ Some Fold = named in cc)
+-- a command that works on one thread alone
+abbrev works_alone : Verb → Bool
+works_alone Mine = false
+works_alone Fold = true
+works_alone Migrate = true
+works_alone Rehearse = true
+works_alone Trial = false
 
-is_migrate : (m f g t : Bool) → verb_by m f g t ≡ Some Migrate → f || g ≡ true
-is_migrate true f g t named = absurd (let e : Some Mine ≡ Some Migrate = named in cc)
-is_migrate false true g t named = refl
-is_migrate false false true t named = refl
-is_migrate false false false true named = absurd (let e : Some Trial ≡ Some Migrate = named in cc)
-is_migrate false false false false named = absurd (let e : None ≡ Some Migrate = named in cc)
+alone : (m f g r t : Bool) (verb : Verb) → verb_by m f g r t ≡ Some verb → works_alone verb ≡ true → f || g || r ≡ true
+alone true f g r t verb named works = absurd (let e : Some Mine ≡ Some verb = named in let same : Mine ≡ verb = cc in
+    let no : false ≡ true = ap works_alone same ∙ works in cc)
+alone false true g r t verb named works = refl
+alone false false true r t verb named works = refl
+alone false false false true t verb named works = refl
+alone false false false false true verb named works = absurd (let e : Some Trial ≡ Some verb = named in let same : Trial ≡ verb = cc in
+    let no : false ≡ true = ap works_alone same ∙ works in cc)
+alone false false false false false verb named works = absurd (let e : None ≡ Some verb = named in cc)
+
+first_alone : (words : List (List ℕ)) (c : Command) → command_of words ≡ Some c → works_alone c.verb ≡ true → is_still words ≡ true
+first_alone [] c given works = absurd (let e : None ≡ Some c = given in cc)
+first_alone (word ∷ words) c given works =
+    alone (bytes_eq word (codes "mine")) (bytes_eq word (codes "fold")) (bytes_eq word (codes "migrate"))
+    (bytes_eq word (codes "rehearse")) (bytes_eq word (codes "trial")) c.verb (first_word word words c given) works
 
 -- to fold takes one thread alone
 pub fold-is_still : (words : List (List ℕ)) (c : Command) → command_of words ≡ Some c → c.verb ≡ Fold →
     is_still words ≡ true
-fold-is_still [] c given fold = absurd (let e : None ≡ Some c = given in cc)
-fold-is_still (word ∷ words) c given fold =
-    is_fold (bytes_eq word (codes "mine")) (bytes_eq word (codes "fold")) (bytes_eq word (codes "migrate")) (bytes_eq word (codes "trial"))
-    (first_word word words c given ∙ ap Some fold)
+fold-is_still words c given fold = first_alone words c given (ap works_alone fold)
 
 -- and so does to migrate
 pub migrate-is_still : (words : List (List ℕ)) (c : Command) → command_of words ≡ Some c → c.verb ≡ Migrate →
     is_still words ≡ true
-migrate-is_still [] c given migrate = absurd (let e : None ≡ Some c = given in cc)
-migrate-is_still (word ∷ words) c given migrate =
-    is_migrate (bytes_eq word (codes "mine")) (bytes_eq word (codes "fold")) (bytes_eq word (codes "migrate")) (bytes_eq word (codes "trial"))
-    (first_word word words c given ∙ ap Some migrate)
+migrate-is_still words c given migrate = first_alone words c given (ap works_alone migrate)
+
+-- and to rehearse
+pub rehearse-is_still : (words : List (List ℕ)) (c : Command) → command_of words ≡ Some c → c.verb ≡ Rehearse →
+    is_still words ≡ true
+rehearse-is_still words c given rehearse = first_alone words c given (ap works_alone rehearse)
 
 -- words that give two commands give them with the same verb and options
 pub same_command : (words : List (List ℕ)) (c d : Command) → command_of words ≡ Some c → command_of words ≡ Some d → c ≡ d
@@ -80,6 +90,13 @@ pub migrate-is_not_mine : (words : List (List ℕ)) (c : Command) (options : Opt
 migrate-is_not_mine words c options given migrate mine =
     let same = same_command words c (mine_command options) given mine in
     let verbs : Migrate ≡ Mine = sym migrate ∙ ap (λ (c : Command). c.verb) same in cc
+
+-- nor is to rehearse
+pub rehearse-is_not_mine : (words : List (List ℕ)) (c : Command) (options : Options) → command_of words ≡ Some c →
+    c.verb ≡ Rehearse → command_of words ≡ Some (mine_command options) → ⊥
+rehearse-is_not_mine words c options given rehearse mine =
+    let same = same_command words c (mine_command options) given mine in
+    let verbs : Rehearse ≡ Mine = sym rehearse ∙ ap (λ (c : Command). c.verb) same in cc
 
 -- words that give this command are those of a trial with its options
 pub trial-options : (words : List (List ℕ)) (c : Command) (options : Options) → command_of words ≡ Some c →

@@ -4,6 +4,7 @@ pub mod Going
 pub mod Turning
 mod Nothing
 mod Commands
+mod Lacking
 mod Jobs
 mod Listing
 mod Outputs

@@ -29,12 +29,6 @@ length-deltas pattern most g (next ∷ later) [] are = absurd are
 length-deltas pattern most g (next ∷ later) (d ∷ deltas) are =
     let rest = length-deltas pattern most next later deltas are.1 in omega (arith, rest)
 
--- a new window, at this timestamp
-pub window_after : {first last : ℕ} (shards : ℕ) → last ≡ first →
-    ◌≡◌ {A = WindowValue} (record { first = last; shards = shards; base = None; later = []; current = None })
-    (record { first = first; shards = shards; base = None; later = []; current = None })
-window_after shards same = ap (λ t. let w : WindowValue = record { first = t; shards = shards; base = None; later = []; current = None } in w) same
-
 -- the same timestamp has too many records
 pub full_at : {terms : Terms} {left0 left written0 written : Option (List ℕ)} {page : List ℕ} {s t : ℕ} → s ≡ t →
     HasEnded terms left0 left written0 written page (status.Limit limit.Records t) → HasEnded terms left0 left written0 written page (status.Limit limit.Records s)
@@ -56,6 +50,13 @@ module _ (terms : Terms) (plan : Plan) (pattern : Pattern) (p : Progress) (was :
       let s = under.waits.stamped in
       let l = under.lines_are in
       let c = countable.few in omega (arith, f, n, s, l, c)
+
+  -- the window that follows is that of the plan
+  pub next_window :
+      ◌≡◌ {A = WindowValue} (record { first = was.window.first + length was.window.later; shards = was.window.shards; base = None; later = []; current = None })
+      (record { first = was.window.first + length was.window.later; shards = plan.shards; base = None; later = []; current = None })
+  next_window =
+      ap (λ n. let w : WindowValue = record { first = was.window.first + length was.window.later; shards = n; base = None; later = []; current = None } in w) under.waits.parted
 
   module _ (mined : Mined) (is : IsMined pattern terms.records was.window p.mined mined) where
     pub few_deltas : (countable : IsCountable terms) → was.window.first + length mined.deltas.items ≤ 4 * 10 ^ 9

@@ -33,7 +33,7 @@ untold t pieces some told =
     let late : eqb t 0 ≡ false = ne_eqb t 0 (λ e. omega (arith, e, some)) in
     let none : ◌≡◌ {A = Option (List PieceValue)} None (Some pieces) = sym (ap (λ b. cond b (Some []) None) late) ∙ told in cc
 
-TellJob-nil : (terms : Terms) (input : List ℕ) → TellJob terms input []
+pub TellJob-nil : (terms : Terms) (input : List ℕ) → TellJob terms input []
 TellJob-nil terms input = record {
   exact = λ t pieces some told. absurd (untold t pieces some told);
   where_done = λ t say. absurd say;

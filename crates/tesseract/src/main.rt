@@ -8,6 +8,7 @@ mod fold;
 pub mod laws;
 mod migrate;
 mod mine;
+mod miner;
 mod mining;
 mod run;
 mod status;

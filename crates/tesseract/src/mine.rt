@@ -11,19 +11,19 @@ ghost use Rattle.tesseract.specs.calls.Turning.{Advances, GoesToNext, IsAtEnd, I
 ghost use Rattle.tesseract.specs.meaning.Output.{IsCountable};
 ghost use Rattle.tesseract.specs.meaning.Status.{status_of_end};
 
+use crate::miner::Miner;
 use crate::mining::{Emptied, mine_waiting};
 use crate::status::{LimitKind, Status};
 use crate::terms::{Plan, Terms};
 use crate::waiting::{Kept, Waiting};
 use filter_polarity::Program;
-use graph_types::{Gate, NoMemory, Stamp};
+use graph_types::{NoMemory, Stamp};
 use group_window::Window;
 use job::{Header, Job, Stream};
 use job_io::{LineFault, LineReader, Page, Sink, Source, WriteFault};
 use record_text::{RecordFormat, write_head};
 use shard_state::sharing::make_shards;
 use std::alloc::Global;
-use std::sync::Wait;
 
 /// A run between two lines.
 #[derive(Drop)]
@@ -59,14 +59,13 @@ impl Run {
 /// Mines a job on these terms: reads it line by line, gathers what is accepted in windows, and writes what each
 /// timestamp takes away and brings once its window ends. Output is held back in a page, and sent before the source is
 /// asked for more.
-pub fn mine<R: Wait, S: Source, O: Sink, G: Gate>(
-    rt: &R,
+pub fn mine<M: Miner, S: Source, O: Sink>(
+    miner: &M,
     alloc: Global,
     terms: Terms,
     plan: Plan,
     input: &mut S,
     out: &mut O,
-    gate: &G,
 ) -> Status
     requires countable { IsCountable terms }
     requires planned { IsPlan plan }
@@ -80,7 +79,7 @@ pub fn mine<R: Wait, S: Source, O: Sink, G: Gate>(
     ensures write_cause { result ≡ Status.WriteFault → HasRisen (O.faults out.old) (O.faults out.new) }
 {
     let mut page = Page::new();
-    match mine_lines(rt, alloc, terms, plan, &mut page, input, out, gate) {
+    match mine_lines(miner, alloc, terms, plan, &mut page, input, out) {
         Ok(status) => match page.send(out) {
             Ok(()) => status,
             Err(WriteFault) => Status::WriteFault,
@@ -90,15 +89,14 @@ pub fn mine<R: Wait, S: Source, O: Sink, G: Gate>(
 }
 
 /// Takes all lines. What the page holds at the end is still to be sent.
-fn mine_lines<R: Wait, S: Source, O: Sink, G: Gate>(
-    rt: &R,
+fn mine_lines<M: Miner, S: Source, O: Sink>(
+    miner: &M,
     alloc: Global,
     terms: Terms,
     plan: Plan,
     page: &mut Page,
     input: &mut S,
     out: &mut O,
-    gate: &G,
 ) -> Result<Status, WriteFault>
     requires countable { IsCountable terms }
     requires planned { IsPlan plan }
@@ -119,7 +117,7 @@ fn mine_lines<R: Wait, S: Source, O: Sink, G: Gate>(
     };
     'lines: loop {
         match take_line(
-            rt,
+            miner,
             alloc,
             terms,
             plan,
@@ -128,7 +126,6 @@ fn mine_lines<R: Wait, S: Source, O: Sink, G: Gate>(
             page,
             input,
             out,
-            gate,
         )? {
             Turn::More(next) => run = next,
             Turn::End(status) => return Ok(status),
@@ -137,8 +134,8 @@ fn mine_lines<R: Wait, S: Source, O: Sink, G: Gate>(
 }
 
 /// Takes the next line.
-fn take_line<R: Wait, S: Source, O: Sink, G: Gate>(
-    rt: &R,
+fn take_line<M: Miner, S: Source, O: Sink>(
+    miner: &M,
     alloc: Global,
     terms: Terms,
     plan: Plan,
@@ -147,7 +144,6 @@ fn take_line<R: Wait, S: Source, O: Sink, G: Gate>(
     page: &mut Page,
     input: &mut S,
     out: &mut O,
-    gate: &G,
 ) -> Result<Turn, WriteFault>
     requires countable { IsCountable terms }
     requires planned { IsPlan plan }
@@ -166,7 +162,7 @@ fn take_line<R: Wait, S: Source, O: Sink, G: Gate>(
 {
     send_before_wait(reader, page, out)?;
     if let Some(status) = advance(reader, page, &run.job, input) {
-        return close(rt, alloc, terms, plan, run, status, page, out, gate);
+        return close(miner, alloc, terms, plan, run, status, page, out);
     }
     let Run { job, waiting } = run;
     match job {
@@ -181,7 +177,7 @@ fn take_line<R: Wait, S: Source, O: Sink, G: Gate>(
             out,
         ),
         Job::Streaming(stream) => take_update(
-            rt,
+            miner,
             alloc,
             terms,
             plan,
@@ -191,7 +187,6 @@ fn take_line<R: Wait, S: Source, O: Sink, G: Gate>(
             waiting,
             page,
             out,
-            gate,
         ),
     }
 }
@@ -240,8 +235,8 @@ fn write_opening<O: Sink>(
 
 /// Takes a line of the stream, which was given last: makes the update that is accepted, or opens or ends a batch, and
 /// mines what waits where its window ends.
-fn take_update<R: Wait, O: Sink, G: Gate>(
-    rt: &R,
+fn take_update<M: Miner, O: Sink>(
+    miner: &M,
     alloc: Global,
     terms: Terms,
     plan: Plan,
@@ -251,7 +246,6 @@ fn take_update<R: Wait, O: Sink, G: Gate>(
     waiting: Waiting,
     page: &mut Page,
     out: &mut O,
-    gate: &G,
 ) -> Result<Turn, WriteFault>
     requires countable { IsCountable terms }
     requires planned { IsPlan plan }
@@ -271,7 +265,7 @@ fn take_update<R: Wait, O: Sink, G: Gate>(
         Ok(item) => item,
         Err(fault) => {
             return end(
-                rt,
+                miner,
                 alloc,
                 terms,
                 plan,
@@ -280,7 +274,6 @@ fn take_update<R: Wait, O: Sink, G: Gate>(
                 Status::from(fault),
                 page,
                 out,
-                gate,
             );
         }
     };
@@ -292,7 +285,7 @@ fn take_update<R: Wait, O: Sink, G: Gate>(
         })),
         Ok(Kept::Ended) => {
             match mine_waiting(
-                rt,
+                miner,
                 alloc,
                 terms,
                 plan,
@@ -300,7 +293,6 @@ fn take_update<R: Wait, O: Sink, G: Gate>(
                 waiting,
                 page,
                 out,
-                gate,
             )? {
                 Emptied::Nothing(waiting) => Ok(Turn::More(Run {
                     job: Job::Streaming(stream),
@@ -313,8 +305,8 @@ fn take_update<R: Wait, O: Sink, G: Gate>(
 }
 
 /// Ends a run where its job ends so. What was accepted before is mined first.
-fn close<R: Wait, O: Sink, G: Gate>(
-    rt: &R,
+fn close<M: Miner, O: Sink>(
+    miner: &M,
     alloc: Global,
     terms: Terms,
     plan: Plan,
@@ -322,7 +314,6 @@ fn close<R: Wait, O: Sink, G: Gate>(
     status: Status,
     page: &mut Page,
     out: &mut O,
-    gate: &G,
 ) -> Result<Turn, WriteFault>
     requires countable { IsCountable terms }
     requires planned { IsPlan plan }
@@ -339,7 +330,7 @@ fn close<R: Wait, O: Sink, G: Gate>(
     match job {
         Job::Heading(_) => Ok(Turn::End(status)),
         Job::Streaming(stream) => end(
-            rt,
+            miner,
             alloc,
             terms,
             plan,
@@ -348,14 +339,13 @@ fn close<R: Wait, O: Sink, G: Gate>(
             status,
             page,
             out,
-            gate,
         ),
     }
 }
 
 /// Ends a run whose job ends so in its stream. A batch that is open is left out.
-fn end<R: Wait, O: Sink, G: Gate>(
-    rt: &R,
+fn end<M: Miner, O: Sink>(
+    miner: &M,
     alloc: Global,
     terms: Terms,
     plan: Plan,
@@ -364,7 +354,6 @@ fn end<R: Wait, O: Sink, G: Gate>(
     status: Status,
     page: &mut Page,
     out: &mut O,
-    gate: &G,
 ) -> Result<Turn, WriteFault>
     requires countable { IsCountable terms }
     requires planned { IsPlan plan }
@@ -381,7 +370,7 @@ fn end<R: Wait, O: Sink, G: Gate>(
     if status == Status::NoMemory {
         return Ok(Turn::End(status));
     }
-    match mine_waiting(rt, alloc, terms, plan, program, waiting, page, out, gate)? {
+    match mine_waiting(miner, alloc, terms, plan, program, waiting, page, out)? {
         Emptied::Nothing(_waiting) => Ok(Turn::End(status)),
         Emptied::End(why) => Ok(Turn::End(why)),
     }

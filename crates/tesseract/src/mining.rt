@@ -13,18 +13,17 @@ ghost use Rattle.tesseract.specs.calls.Turning.{Empties, IsPlan, WaitsUnder};
 ghost use Rattle.tesseract.specs.calls.Writing.{AreWaitingDeltas, WritesGroup, WritesWaiting};
 ghost use Rattle.tesseract.specs.meaning.Output.{IsCountable};
 
+use crate::miner::Miner;
 use crate::status::{LimitKind, Status};
 use crate::terms::{Plan, Terms};
 use crate::waiting::Waiting;
 use delta_task::Delta;
 use filter_polarity::Program;
-use graph_types::{Gate, PieceList, Stamp};
-use group_window::Window;
+use graph_types::{PieceList, Stamp};
 use job_io::{Page, Sink, WriteFault};
 use record_text::{write_delta, write_done};
 use std::alloc::Global;
-use std::sync::Wait;
-use window_miner::{Mined, mine_window};
+use window_miner::Mined;
 
 /// What mining what waits leads to.
 #[derive(Drop)]
@@ -44,8 +43,8 @@ pub enum Written {
 }
 
 /// Mines the groups that wait, under this program, and writes their records.
-pub fn mine_waiting<R: Wait, O: Sink, G: Gate>(
-    rt: &R,
+pub fn mine_waiting<M: Miner, O: Sink>(
+    miner: &M,
     alloc: Global,
     terms: Terms,
     plan: Plan,
@@ -53,7 +52,6 @@ pub fn mine_waiting<R: Wait, O: Sink, G: Gate>(
     waiting: Waiting,
     page: &mut Page,
     out: &mut O,
-    gate: &G,
 ) -> Result<Emptied, WriteFault>
     requires countable { IsCountable terms }
     requires planned { IsPlan plan }
@@ -71,23 +69,13 @@ pub fn mine_waiting<R: Wait, O: Sink, G: Gate>(
         standing,
     } = waiting;
     let first = window.first();
-    let last = window.stamp_after(window.len());
-    let Ok(mined) = mine_window(
-        rt,
-        alloc,
-        shards,
-        &window,
-        program,
-        plan.workers,
-        terms.records,
-        gate,
-    ) else {
+    let Ok(mined) = miner.mine(alloc, shards, &window, program, terms.records) else {
         return Ok(Emptied::End(Status::NoMemory));
     };
     let Mined { shards, deltas } = mined;
     match write_waiting(terms, first, standing, &deltas, page, out)? {
         Written::All(standing) => Ok(Emptied::Nothing(Waiting {
-            window: Window::new(alloc, last, plan.shards),
+            window: window.into_next(),
             shards,
             standing,
         })),

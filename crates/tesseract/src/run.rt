@@ -12,6 +12,7 @@ ghost use Rattle.tesseract.specs.meaning.Status.{status_line};
 use crate::fold::fold;
 use crate::migrate::migrate;
 use crate::mine::mine;
+use crate::miner::{OneThread, Rehearsal};
 use crate::status::Status;
 use crate::terms::{Plan, Terms};
 use crate::trial::trial;
@@ -22,6 +23,7 @@ use record_text::RecordFormat;
 use std::alloc::Global;
 use std::sync::Wait;
 use std::thread::Threads;
+use window_miner::AtGate;
 
 /// How many lines a text of records may have.
 const MOST_RECORD_LINES: u64 = 4_000_000_000_000;
@@ -73,26 +75,28 @@ pub fn run<R: Wait + Threads, S: Source, O: Sink, E: Sink, G: Gate>(
             Verb::Mine => tell(
                 err,
                 mine(
-                    rt,
+                    &OneThread {
+                        pass: AtGate { rt, gate },
+                    },
                     alloc,
                     terms_of(&options),
                     plan_of(&options),
                     input,
                     out,
-                    gate,
                 ),
             ),
-            Verb::Fold | Verb::Migrate => run_still(alloc, words, input, out, err),
+            Verb::Fold | Verb::Migrate | Verb::Rehearse => run_still(alloc, words, input, out, err),
             Verb::Trial => tell(
                 err,
                 trial(
-                    rt,
+                    &OneThread {
+                        pass: AtGate { rt, gate },
+                    },
                     alloc,
                     &options,
                     trial_terms(&options),
                     plan_of(&options),
                     out,
-                    gate,
                 ),
             ),
         },
@@ -140,12 +144,11 @@ fn plan_of(options: &Options) -> Plan
     Plan {
         window: options.window,
         shards: options.shards,
-        workers: options.workers,
     }
 }
 
-/// Does what the words of a command say that works on one thread: `fold` or `migrate`. It waits for nobody, and
-/// always returns.
+/// Does what the words of a command say that works on one thread: `fold`, `migrate` or `rehearse`. It waits for nobody,
+/// and always returns.
 pub fn run_still<S: Source, O: Sink, E: Sink>(
     alloc: Global,
     words: &[String],
@@ -173,6 +176,14 @@ pub fn run_still<S: Source, O: Sink, E: Sink>(
         Ok(Command { verb, options }) => {
             let status = match verb {
                 Verb::Migrate => migrate(alloc, MOST_RECORD_LINES, input, out),
+                Verb::Rehearse => mine(
+                    &Rehearsal::of(&options.schedule),
+                    alloc,
+                    terms_of(&options),
+                    plan_of(&options),
+                    input,
+                    out,
+                ),
                 _ => fold(alloc, MOST_RECORD_LINES, options.at, input, out),
             };
             tell(err, status)

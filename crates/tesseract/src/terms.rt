@@ -17,6 +17,4 @@ pub struct Plan {
     pub window: u32,
     /// Among how many shards the vertices are parted.
     pub shards: u32,
-    /// How many threads mine; as yet one does.
-    pub workers: u32,
 }

@@ -9,26 +9,24 @@ ghost use Rattle.tesseract.specs.meaning.Summary.{summary_line as line_of_summar
 ghost use Rattle.trial_job.specs.meaning.TrialJob.{states_end, trial_text};
 
 use crate::mine::mine;
+use crate::miner::Miner;
 use crate::status::Status;
 use crate::terms::{Plan, Terms};
 use command_words::Options;
-use graph_types::Gate;
 use job_io::{ShortLine, Sink, WriteFault, put_all};
 use record_tally::Tally;
 use std::alloc::Global;
-use std::sync::Wait;
 use trial_job::{JobSource, trial_job};
 
 /// Makes the job of a trial, mines it, and writes how many updates it has, how many pieces come and go, and how many of
 /// them are left. No record is written, and nothing is written where the job ends early.
-pub fn trial<R: Wait, O: Sink, G: Gate>(
-    rt: &R,
+pub fn trial<M: Miner, O: Sink>(
+    miner: &M,
     alloc: Global,
     options: &Options,
     terms: Terms,
     plan: Plan,
     out: &mut O,
-    gate: &G,
 ) -> Status
     requires countable { IsCountable terms }
     requires counted { terms.format ≡ One }
@@ -46,7 +44,7 @@ pub fn trial<R: Wait, O: Sink, G: Gate>(
     };
     let mut source = JobSource::new(job);
     let mut tally = Tally::new(alloc);
-    match mine(rt, alloc, terms, plan, &mut source, &mut tally, gate) {
+    match mine(miner, alloc, terms, plan, &mut source, &mut tally) {
         Status::Ok => write_summary(&tally, out),
         // A tally fails only where memory is refused.
         Status::WriteFault => Status::NoMemory,

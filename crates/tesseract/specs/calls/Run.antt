@@ -18,7 +18,7 @@ use Rattle.tesseract.specs.meaning.Output.{most_record_lines, output}
 use Rattle.tesseract.specs.meaning.Status.{status_line, status_of_end}
 use Rattle.command_words.specs.meaning.Words.{command_of}
 use Rattle.command_words.specs.declared.command.Options.{Options}
-use Rattle.tesseract.specs.meaning.Commands.{fold_command, migrate_command}
+use Rattle.tesseract.specs.meaning.Commands.{fold_command, migrate_command, rehearse_command, terms_of}
 use Rattle.tesseract.specs.calls.Fold.{Folds}
 use Rattle.tesseract.specs.calls.Migrate.{MigratesAs}
 
@@ -114,6 +114,10 @@ pub record AnswersWords (words : List (List ℕ)) (input0 input out0 out err0 er
   -- and `migrate` writes the records anew.
   pub migrated : (options : Options) → command_of words ≡ Some (migrate_command options) →
       MigratesAs most_record_lines input0.bytes input.bytes out0.bytes out.bytes why
+  -- `rehearse` writes the text of the job, as `mine` does, whatever its digits choose, and this tells of its embeddings.
+  pub rehearsed : (options : Options) → command_of words ≡ Some (rehearse_command options) →
+      Mines (terms_of options) input0.bytes input.bytes out0.bytes out.bytes why
+      × WritesTold (terms_of options) input0.bytes input.bytes out0.bytes out.bytes
   -- A fault is told only of an end that failed in this call.
   pub read_cause : why ≡ status.ReadFault → HasRisen input0.faults input.faults
   pub write_cause : why ≡ status.WriteFault → HasRisen out0.faults out.faults

@@ -3,7 +3,7 @@ use Rattle.std.specs.Prelude.{ℕ, Bool, false, ◌||◌, codes, List, [], ◌�
 use Rattle.std.specs.Str.{bytes_eq}
 use Rattle.command_words.specs.declared.command.Command.{Command}
 use Rattle.command_words.specs.declared.command.Options.{Options}
-use Rattle.command_words.specs.declared.command.Verb.TheVariants.{Mine, Fold, Migrate, Trial}
+use Rattle.command_words.specs.declared.command.Verb.TheVariants.{Mine, Fold, Migrate, Rehearse, Trial}
 use Rattle.record_text.specs.declared.record_format.RecordFormat.{RecordFormat}
 use Rattle.record_text.specs.declared.record_format.RecordFormat.TheVariants.{One, Two}
 use Rattle.tesseract.specs.declared.terms.Terms.{Terms}
@@ -17,6 +17,9 @@ fold_command options = record { verb = Fold; options = options }
 
 abbrev pub migrate_command : Options → Command
 migrate_command options = record { verb = Migrate; options = options }
+
+abbrev pub rehearse_command : Options → Command
+rehearse_command options = record { verb = Rehearse; options = options }
 
 abbrev pub trial_command : Options → Command
 trial_command options = record { verb = Trial; options = options }
@@ -40,4 +43,4 @@ trial_bytes options = trial_text options.seed options.vertices options.updates
 -- the first word is that of a command that works on one thread alone
 abbrev pub is_still : List (List ℕ) → Bool
 is_still [] = false
-is_still (word ∷ words) = bytes_eq word (codes "fold") || bytes_eq word (codes "migrate")
+is_still (word ∷ words) = bytes_eq word (codes "fold") || bytes_eq word (codes "migrate") || bytes_eq word (codes "rehearse")

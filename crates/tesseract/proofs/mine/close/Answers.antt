@@ -13,7 +13,7 @@ returns-in-Heading-clause-runs g c = λ left0 left left' written0 old new p is_e
     )
 
 pub end-requires-clause-waits : goal.end-requires-clause-waits
-end-requires-clause-waits g c = λ _ _.
+end-requires-clause-waits g c =
     let stands = c.requires.stands.1 in
     let waits = stands.waits in (
       c.requires.stands.0,

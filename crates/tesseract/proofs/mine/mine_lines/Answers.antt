@@ -5,7 +5,7 @@ use Rattle.tesseract.proofs.Going.{Ended-unbegun}
 use Rattle.tesseract.proofs.mine.mine_lines.Goals as goal
 
 pub take_line-requires-clause-stands : goal.take_line-requires-clause-stands
-take_line-requires-clause-stands g c = λ _ _. (
+take_line-requires-clause-stands g c = (
   c.lines.invariant.0.progress,
   (let n = c.lines.invariant.0.running.counted in omega (arith, n)),
   c.lines.invariant.0.stands,

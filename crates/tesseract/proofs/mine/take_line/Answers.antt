@@ -18,7 +18,7 @@ returns-in-Some-clause-runs g c = λ left0 written0 p stands running.
     (ends_most c.args.terms p.stage c.args.reader.now c.advance.new.reader _ _ c.in-Some.status c.requires.most ends.1) stands sent
 
 pub take_update-requires-clause-counted : goal.take_update-requires-clause-counted
-take_update-requires-clause-counted g c = λ _ _.
+take_update-requires-clause-counted g c =
     let next = (c.in_default.ensures.advances c.requires.stands.0.stage c.requires.stands.2.waits.at).2 in
     let n = c.number-in-Streaming.ensures in
     let few = next.few in
@@ -26,7 +26,7 @@ take_update-requires-clause-counted g c = λ _ _.
     let most = c.requires.most in omega (arith, n, few, same, most)
 
 pub take_update-requires-clause-stands : goal.take_update-requires-clause-stands
-take_update-requires-clause-stands g c = λ _ _.
+take_update-requires-clause-stands g c =
     let next = (c.in_default.ensures.advances c.requires.stands.0.stage c.requires.stands.2.waits.at).2 in
     let stands = c.requires.stands.2 in (
       c.requires.stands.0,

@@ -10,7 +10,7 @@ use Rattle.tesseract.proofs.Turning.{tell_bytes}
 use Rattle.tesseract.proofs.mine.take_update.Goals as goal
 
 pub end-requires-clause-waits : goal.end-requires-clause-waits
-end-requires-clause-waits g c = λ _ _.
+end-requires-clause-waits g c =
     let stands = c.requires.stands.2 in (
       c.requires.stands.0,
       subst (λ program. WaitsUnder c.args.terms c.args.plan (pattern_of program) c.requires.stands.0 c.args.waiting) (sym (c.deref.ensures ∙ ap box_value c.take.ensures.program))
@@ -26,7 +26,7 @@ returns-in-Err-clause-runs g c = λ left0 was is written0 old new p given most s
     (under_program c.args.terms c.args.plan p c.args.stream c.args.waiting stands.waits stands.lines_are)) running
 
 pub mine_waiting-requires-clause-waits : goal.mine_waiting-requires-clause-waits
-mine_waiting-requires-clause-waits g c = λ _ _.
+mine_waiting-requires-clause-waits g c =
     let p = c.requires.stands.0 in
     let stands = c.requires.stands.2 in
     let next = item_kept c.args.terms c.args.plan p c.args.stream c.take.new.self c.args.waiting c.keep.new.self c.in-Ok.item c.keep.new.graph
