@@ -1,0 +1,2 @@
+-- What the calls do, by their results.
+pub mod Leading
